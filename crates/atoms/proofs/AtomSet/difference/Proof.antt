@@ -1,0 +1,14 @@
+-- `atoms::AtomSet::difference` meets its contract: what two sets share is no larger than either. Assumes nothing.
+use borrow.Author.Needs.{needs}
+use lib.Bits.{and-le-l}
+use Rattle.atoms.proofs.AtomSet.difference.Statement.{statement}
+use Rattle.atoms.proofs.AtomSet.difference.Tie as tie
+
+sub-t4 : tie.Need-sub-t4
+sub-t4 c = and-le-l (c .before .before .before .args .self .bits) (c .before .before .before .args .other .bits)
+
+returns : tie.Need-returns
+returns c = search needs
+
+pub difference-spec : {M : Type 1} → statement M
+difference-spec = tie.close (tie.spec sub-t4 returns)

@@ -1,0 +1,25 @@
+-- `atoms::AtomSet::one` meets its contract: up to 63 the shift gives the power of two. Assumes nothing.
+use borrow.Author.Needs.{needs}
+use borrow.Author.Tests.{lt-leb}
+use lib.Pow.{pow-lt}
+use Prim.Native.Nat.{_<_}
+use native.Mathlib.Nat.{mod-eq-of-lt, one-mul}
+use native.Mathlib.Omega.{arith}
+use Rattle.atoms.proofs.SetLaws.{single-is}
+use Rattle.atoms.proofs.AtomSet.one.Statement.{statement}
+use Rattle.atoms.proofs.AtomSet.one.Tie as tie
+
+below : (c : tie.Then1) → c .before .args .atom < 64
+below c = omega arith
+
+shl-t5 : tie.Need-shl-t5
+shl-t5 c = search needs
+
+returns : tie.Need-returns
+returns c = simp (one-mul, mod-eq-of-lt (pow-lt (below c)), single-is _ (c .if1 .taken))
+
+returns-2 : tie.Need-returns-2
+returns-2 c = simp (lt-leb _ 63 (c .if1 .left))
+
+pub one-spec : {M : Type 1} → statement M
+one-spec = tie.close (tie.spec shl-t5 returns returns-2)

@@ -1,0 +1,6 @@
+-- The laws of tests, of sets as numbers, of sizes and of bytes.
+pub mod TestLaws
+pub mod SetLaws
+pub mod SizeLaws
+pub mod ByteLaws
+pub mod MeaningProof

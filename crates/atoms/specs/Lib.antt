@@ -1,0 +1,5 @@
+-- Atoms and sets of atoms, in the order of reading.
+pub mod Atoms
+pub mod Sets
+pub mod LittleEndian
+pub mod Meaning

@@ -1,0 +1,13 @@
+-- Document 01, "Atoms and records": a set as its bytes. Assumes nothing.
+use mathlib.Core.List.{List, [], _∷_}
+use Prim.Native.Nat.{_*_, _+_, _<_, ℕ}
+
+-- what a byte is: a number below 256
+abbrev pub Bytes : List ℕ → Type 0
+Bytes [] = Unit {0}
+Bytes (b ∷ bs) = (b < 256) × Bytes bs
+
+-- "both little-endian": a number from its bytes, the lowest first
+unfoldable pub littleEndian : List ℕ → ℕ
+littleEndian [] = 0
+littleEndian (b ∷ bs) = b + 256 * littleEndian bs

@@ -1,0 +1,72 @@
+// Atoms and sets of atoms (document 01, "Atoms and records").
+ghost use mathlib.Core.Path.{_≡_};
+ghost use Rattle.atoms.specs.Sets.{difference, empty, intersection, member, single, size, subset, union};
+
+// A set of atoms: bit k stands for atom k.
+pub struct AtomSet {
+    pub bits: u64,
+}
+
+impl AtomSet {
+    pub const EMPTY: AtomSet = AtomSet { bits: 0 };
+
+    // The set of one atom: empty above 63.
+    pub fn one(atom: u8) -> AtomSet
+        ensures { λ r. ⌜ r .bits ≡ single atom ⌝ }
+    {
+        if atom <= 63 {
+            AtomSet { bits: 1u64 << atom }
+        } else {
+            AtomSet::EMPTY
+        }
+    }
+
+    pub fn union(self, other: AtomSet) -> AtomSet
+        ensures { λ r. ⌜ r .bits ≡ union (self .bits) (other .bits) ⌝ }
+    {
+        AtomSet {
+            bits: self.bits | other.bits,
+        }
+    }
+
+    pub fn intersection(self, other: AtomSet) -> AtomSet
+        ensures { λ r. ⌜ r .bits ≡ intersection (self .bits) (other .bits) ⌝ }
+    {
+        AtomSet {
+            bits: self.bits & other.bits,
+        }
+    }
+
+    // The atoms of this set that are not in the other.
+    pub fn difference(self, other: AtomSet) -> AtomSet
+        ensures { λ r. ⌜ r .bits ≡ difference (self .bits) (other .bits) ⌝ }
+    {
+        AtomSet {
+            bits: self.bits - (self.bits & other.bits),
+        }
+    }
+
+    pub fn is_subset(self, other: AtomSet) -> bool
+        ensures { λ r. ⌜ r ≡ subset (self .bits) (other .bits) ⌝ }
+    {
+        self.bits & other.bits == self.bits
+    }
+
+    // No atom above 63 is in a set.
+    pub fn contains(self, atom: u8) -> bool
+        ensures { λ r. ⌜ r ≡ member atom (self .bits) ⌝ }
+    {
+        if atom <= 63 {
+            (self.bits >> atom) % 2 == 1
+        } else {
+            false
+        }
+    }
+
+    // How many atoms the set has: its one bits.
+    pub fn count(self) -> u32
+        ensures { λ r. ⌜ r ≡ size (self .bits) ⌝ }
+    {
+        u64::count_ones(self.bits)
+    }
+}
