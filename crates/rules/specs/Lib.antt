@@ -1,0 +1,5 @@
+-- Rules and their one stable set, in the order of reading.
+pub mod Rules
+pub mod Stable
+pub mod Model
+pub mod Theorems
