@@ -1,0 +1,9 @@
+-- The laws of tests, records, levels and the written form.
+pub mod DecideLaws
+pub mod ReadLaws
+pub mod RecordLaws
+pub mod RefusalLaws
+pub mod NumberLaws
+pub mod PolicyLaws
+pub mod TypeLaws
+pub mod TheoremsProof

@@ -1,0 +1,37 @@
+-- What is read from bytes. Assumes nothing.
+use mathlib.Core.List.{List}
+use Prim.Native.Nat.{_*_, _+_, _<_, _^_, _≤_, suc, zero, ℕ}
+use lib.ListN.{drop, length-take, take}
+use native.Mathlib.Omega.{arith}
+use Rattle.atoms.specs.LittleEndian.{Bytes, littleEndian}
+use Rattle.atoms.proofs.ByteLaws.{bytes-drop, bytes-take, littleEndian-lt}
+use Rattle.rules.specs.Rules.{Every}
+use Rattle.policy.specs.Records.{Record, readRecord, recordAt, recordsFrom}
+
+-- eight bytes are a 64-bit number
+word-lt : (n : ℕ) (bs : List ℕ) → Bytes bs → littleEndian (take 8 (drop n bs)) < 2 ^ 64
+word-lt n bs h =
+    littleEndian-lt 8 (take 8 (drop n bs)) (bytes-take 8 (drop n bs) (bytes-drop n bs h)) (simp (length-take {A = ℕ}) (omega arith))
+
+-- the sets of a record are sets of atoms
+pub record Sized (d : Record) : Type 0 where
+  pub positive : d .rule .positive < 2 ^ 64
+  pub negated : d .rule .negated < 2 ^ 64
+
+pub record-sized : (bytes : List ℕ) → Bytes bytes → (k : ℕ) → Sized (recordAt bytes k)
+unfolding readRecord
+record-sized bytes h k = record { positive = word-lt 2 part inside; negated = word-lt 10 part inside }
+  where
+    part : List ℕ
+    part = take 18 (drop (18 * k) bytes)
+
+    inside : Bytes part
+    inside = bytes-take 18 (drop (18 * k) bytes) (bytes-drop (18 * k) bytes h)
+
+-- what holds of the record at each place holds of every record
+pub every-record : (P : Record → Type 0) (bytes : List ℕ) (k n : ℕ) → ((j : ℕ) → k ≤ j → j < k + n → P (recordAt bytes j))
+    → Every P (recordsFrom bytes k n)
+unfolding recordsFrom
+every-record P bytes k zero f = tt
+every-record P bytes k (suc n) f =
+    (f k (omega arith) (omega arith), every-record P bytes (suc k) n (λ j l m. f j (omega arith) (omega arith)))

@@ -1,0 +1,61 @@
+-- The theorems of policies: the first half of demand 1, each refusal by its number, and levels. Assumes nothing.
+use mathlib.Core.Path.{_≡_}
+use mathlib.Core.Logic.{_↔_}
+use mathlib.Core.List.{List}
+use mathlib.Core.Option.{Option, none, some}
+use Prim.Native.Nat.{_%_, _<_, _≤_, ℕ}
+use lib.ListN.{length}
+use Rattle.atoms.specs.LittleEndian.{Bytes}
+use Rattle.rules.specs.Model.{model}
+use Rattle.rules.specs.Rules.{Every, Stratified}
+use Rattle.rules.specs.Stable.{OneStable}
+use Rattle.policy.specs.Levels.{level}
+use Rattle.policy.specs.PolicyTest.{policyRefusal}
+use Rattle.policy.specs.Records.{Record, accessKind, recordAt, rulesOf, wholeRecords}
+use Rattle.policy.specs.Types.{checkedOf, recordOf}
+use Rattle.policy.specs.WrittenForm.{AllKept, BodyKept, HeadKept, KindKept, Lengths, LevelsKept, PolicyRefused, RecordKept, Refusal, WellFormed, at}
+use Rattle.policy.specs.declared.Checked.{Checked}
+use Rattle.policy.specs.declared.record.Record as program
+
+-- What the policy's test answers, o. Demand 1: "Every policy of the written form is accepted", and "All else is refused with its number from document 01".
+pub record Tested (bytes : List ℕ) (o : Option Refusal) : Type 0 where
+  pub accepts : (o ≡ none) ↔ WellFormed bytes
+  pub refuses : (f : Refusal) → (o ≡ some f) ↔ PolicyRefused bytes f
+
+-- The lengths are kept, and record k is the first that breaks its form: it breaks it as Broken says.
+pub record FirstFault (bytes : List ℕ) (k : ℕ) (Broken : Record → Type 0) : Type 0 where
+  pub lengths : AllKept (Lengths bytes)
+  pub inside : k < wholeRecords bytes
+  pub before : (j : ℕ) → j < k → RecordKept (recordAt bytes j)
+  pub broken : Broken (recordAt bytes k)
+
+-- When each number is given, with which record number.
+pub record Numbers (bytes : List ℕ) (o : Option Refusal) : Type 0 where
+  -- "1: more than 2,304 bytes; record number 128."
+  pub one : (k : ℕ) → (o ≡ some (at 1 k)) ↔ ((2304 < length bytes) × (k ≡ 128))
+  -- "2: length not a multiple of 18; number of whole records."
+  pub two : (k : ℕ) → (o ≡ some (at 2 k)) ↔ ((length bytes ≤ 2304) × (length bytes % 18 ≡ 0 → ⊥) × (k ≡ wholeRecords bytes))
+  -- "3: kind neither 1 nor 2."
+  pub three : (k : ℕ) → (o ≡ some (at 3 k)) ↔ FirstFault bytes k (λ d. KindKept d → ⊥)
+  -- "4: head not allowed for the kind."
+  pub four : (k : ℕ) → (o ≡ some (at 4 k)) ↔ FirstFault bytes k (λ d. KindKept d × (HeadKept d → ⊥))
+  -- "5: body atom not allowed for the kind."
+  pub five : (k : ℕ) → (o ≡ some (at 5 k)) ↔ FirstFault bytes k (λ d. KindKept d × (HeadKept d × (BodyKept d → ⊥)))
+  -- "6: level broken."
+  pub six : (k : ℕ) → (o ≡ some (at 6 k)) ↔ FirstFault bytes k (λ d. KindKept d × (HeadKept d × (BodyKept d × (LevelsKept d → ⊥))))
+  -- "The policy's test gives only 1 to 6"
+  pub only : (n k : ℕ) → o ≡ some (at n k) → (1 ≤ n) × (n ≤ 6)
+
+-- What the program's types mean is one-to-one, so that a contract through these maps fixes the answer.
+pub record OneToOne : Type 0 where
+  pub checked : (x y : Checked) → checkedOf x ≡ checkedOf y → x ≡ y
+  pub records : (x y : program.Record) → recordOf x ≡ recordOf y → x ≡ y
+
+pub record Theorems : Type 0 where
+  pub tested : (bytes : List ℕ) → Bytes bytes → Tested bytes (policyRefusal bytes)
+  pub numbers : (bytes : List ℕ) → Bytes bytes → Numbers bytes (policyRefusal bytes)
+  pub one-to-one : OneToOne
+  -- an accepted policy's access rules keep the levels
+  pub stratified : (bytes : List ℕ) → Bytes bytes → WellFormed bytes → Every (Stratified level) (rulesOf accessKind bytes)
+  -- "For every accepted policy and every C just one stable set exists; that is the model."
+  pub models : (bytes : List ℕ) → Bytes bytes → WellFormed bytes → (C : ℕ) → OneStable (rulesOf accessKind bytes) C (model (rulesOf accessKind bytes) C)

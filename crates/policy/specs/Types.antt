@@ -1,0 +1,28 @@
+-- What the program's types mean: document 01's number and values for each case. Assumes nothing.
+use mathlib.Core.Option.{Option, none, some}
+use Rattle.policy.specs.Records as R
+use Rattle.policy.specs.WrittenForm as W
+use Rattle.policy.specs.declared.record.Record.{Record}
+use Rattle.policy.specs.declared.Refusal.{Refusal}
+use Rattle.policy.specs.declared.Refusal.the-variants.{TooLong, NotWhole, Kind, Head, Body, Level}
+use Rattle.policy.specs.declared.Checked.{Checked}
+use Rattle.policy.specs.declared.Checked.the-variants.{Accepted, Refused}
+
+abbrev pub recordOf : Record → R.Record
+recordOf d = record {
+  kind = d .kind;
+  rule = record { head = d .head; positive = d .positive .bits; negated = d .negated .bits };
+}
+
+abbrev pub refusalOf : Refusal → W.Refusal
+refusalOf TooLong = W.at 1 128
+refusalOf (NotWhole k) = W.at 2 k
+refusalOf (Kind k) = W.at 3 k
+refusalOf (Head k) = W.at 4 k
+refusalOf (Body k) = W.at 5 k
+refusalOf (Level k) = W.at 6 k
+
+-- the refusal, or none where the policy is accepted
+abbrev pub checkedOf : Checked → Option W.Refusal
+checkedOf Accepted = none
+checkedOf (Refused f) = some (refusalOf f)

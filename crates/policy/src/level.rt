@@ -1,0 +1,34 @@
+// The level of an atom: what the field calls its stratum.
+ghost use mathlib.Core.Path.{_≡_};
+ghost use mathlib.Core.Logic.{_↔_};
+ghost use Prim.Native.Nat.{_<_, _≤_, ℕ};
+ghost use Rattle.atoms.specs.Atoms.{violation};
+ghost use Rattle.atoms.specs.Sets.{Member};
+ghost use Rattle.policy.specs.Levels.{level};
+use atoms::AtomSet;
+
+// The level of an atom: a byte that is no atom is given one too.
+pub fn level(atom: u8) -> u8
+    ensures { λ r. ⌜ r ≡ level atom ⌝ }
+{
+    if atom == 63 {
+        8
+    } else {
+        atom / 8
+    }
+}
+
+// The atoms on the levels below one.
+pub(crate) fn atoms_below(bound: u8) -> AtomSet
+    ensures { λ r. ⌜ ((k : ℕ) → Member k (r .bits) ↔ ((k ≤ violation) × (level k < bound))) ⌝ }
+{
+    if bound < 8 {
+        AtomSet { bits: (1u64 << (8 * bound)) - 1 }
+    } else {
+        if bound == 8 {
+            AtomSet { bits: u64::MAX / 2 }
+        } else {
+            AtomSet { bits: u64::MAX }
+        }
+    }
+}

@@ -1,0 +1,60 @@
+// Policies: the record reader and the policy's test (document 01, "Atoms and records" and "Who can be turned back").
+ghost use mathlib.Core.Path.{_≡_};
+ghost use Prim.Native.Nat.{_*_, _+_, _≤_};
+ghost use lib.ListN.{length};
+ghost use Rattle.policy.specs.PolicyTest.{policyRefusal, recordsRefusal};
+ghost use Rattle.policy.specs.Types.{checkedOf};
+
+mod form;
+pub mod level;
+pub mod record;
+
+// Why a policy is refused: each case but the first with the record's number, counted from 0.
+pub enum Refusal {
+    // More than 2,304 bytes.
+    TooLong,
+    // A length that is not a multiple of 18.
+    NotWhole(u8),
+    Kind(u8),
+    Head(u8),
+    Body(u8),
+    Level(u8),
+}
+
+// What the policy's test answers.
+pub enum Checked {
+    Accepted,
+    Refused(Refusal),
+}
+
+// The policy's test: accepted, or the first refusal that applies.
+pub fn check(policy: &[u8]) -> Checked
+    ensures answer { λ r. ⌜ checkedOf r ≡ policyRefusal (now (policy .entry)) ⌝ }
+    ensures unchanged { λ _. ⌜ now (policy .exit) ≡ now (policy .entry) ⌝ }
+{
+    let bytes = policy.len();
+    if bytes > 2304 {
+        return Checked::Refused(Refusal::TooLong);
+    }
+    let records = bytes / 18;
+    if bytes % 18 != 0 {
+        return Checked::Refused(Refusal::NotWhole(records as u8));
+    }
+    check_records(policy, records)
+}
+
+// The first refusal of the first `records` records, which are there.
+fn check_records(policy: &[u8], records: usize) -> Checked
+    requires { ⌜ (18 * records ≤ length (now policy)) × (records ≤ 128) ⌝ }
+    ensures { λ r. ⌜ checkedOf r ≡ recordsRefusal (now (policy .entry)) 0 records ⌝ }
+{
+    let mut k: usize = 0;
+    while k < records {
+        let checked = form::check_record(record::read_record(&policy[18 * k..18 * k + 18]), k as u8);
+        let Checked::Accepted = checked else {
+            return checked;
+        };
+        k += 1;
+    }
+    Checked::Accepted
+}
