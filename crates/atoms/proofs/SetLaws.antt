@@ -6,9 +6,9 @@ use Prim.Native.Nat.{_%_, _*_, _+_, _-_, _/_, _<_, _^_, _≤_, max, min, suc, ze
 use lib.Arith.{half-le}
 use lib.Bits.{and-le-l, and-shr, and-step, bitAnd, bitOr, or-shr, or-step}
 use lib.Dec.{leb, leb→le}
-use lib.Pow.{pow-mono, shr-shr}
+use lib.Pow.{pow-mono, pow-pos, shr-shr}
 use native.Mathlib.Decide.{decLt, ℕ-discrete}
-use native.Mathlib.Nat.{div-eq-of-lt, div-one, lt-of-lt-of-le, mod-lt, zero-div, zero-lt-suc}
+use native.Mathlib.Nat.{div-eq-of-lt, div-one, le-of-suc-le-suc, lt-of-lt-of-le, mod-lt, not-suc-le-zero, zero-div, zero-lt-suc}
 use native.Mathlib.Numerals.{one-add}
 use native.Mathlib.Omega.{arith}
 use Rattle.atoms.specs.Atoms.{violation}
@@ -84,6 +84,17 @@ member-low s n k h m = go (decLt k n)
     go : Dec (k < n) → k < n
     go (yes l) = l
     go (no g) = let z : bit s k ≡ 0 = bit-high s n k h (omega arith) in omega arith
+
+-- the set of the n lowest atoms
+lowest-bit : (n k : ℕ) → k < n → bit (2 ^ n - 1) k ≡ 1
+lowest-bit zero k l = absurd (not-suc-le-zero l)
+lowest-bit (suc n) zero l = bit-first (2 ^ suc n - 1) ∙ omega (arith, pow-pos n)
+lowest-bit (suc n) (suc k) l =
+    let half : (2 ^ suc n - 1) / 2 ≡ 2 ^ n - 1 = omega (arith, pow-pos n) in
+    bit-next (2 ^ suc n - 1) k ∙ ap (λ (x : ℕ). bit x k) half ∙ lowest-bit n k (le-of-suc-le-suc l)
+
+pub member-lowest : (n k : ℕ) → Member k (2 ^ n - 1) ↔ (k < n)
+member-lowest n k = (member-low (2 ^ n - 1) n k (omega (arith, pow-pos n)), lowest-bit n k)
 
 -- ---- two sets with the same atoms are the same number
 

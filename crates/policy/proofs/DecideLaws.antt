@@ -13,6 +13,13 @@ use Rattle.policy.specs.WrittenForm.{AllKept, FirstBroken}
 abbrev pub Decides : Bool → Type 0 → Type 0
 Decides b K = (b ≡ true) ↔ K
 
+-- two tests of one statement are equal
+pub same-decision : {K : Type 0} (a b : Bool) → Decides a K → Decides b K → a ≡ b
+same-decision true true d e = refl
+same-decision true false d e = sym (e .1 (d .0 refl))
+same-decision false true d e = d .1 (e .0 refl)
+same-decision false false d e = refl
+
 pub decides-le : (a b : ℕ) → Decides (leb a b) (a ≤ b)
 decides-le a b = (λ e. leb→le a b (true-T e), le-true a b)
 

@@ -1,9 +1,12 @@
 -- The laws of tests, records, levels and the written form.
 pub mod DecideLaws
 pub mod ReadLaws
+pub mod LevelLaws
+pub mod KindLaws
 pub mod RecordLaws
 pub mod RefusalLaws
 pub mod NumberLaws
+pub mod LoopLaws
 pub mod PolicyLaws
 pub mod TypeLaws
 pub mod TheoremsProof

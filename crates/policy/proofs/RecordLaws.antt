@@ -1,14 +1,14 @@
 -- The tests of a record decide its form. Assumes nothing.
 use mathlib.Core.Path.{_≡_, refl, subst, sym}
-use mathlib.Core.Logic.{_⊎_, inl, inr}
+use mathlib.Core.Logic.{_↔_, _⊎_, inl, inr}
 use mathlib.Core.Bool.{Bool, _&&_, _||_, cond, false, not, true, true≢false}
-use Prim.Native.Nat.{_<_, _^_, _≤_, suc, zero, ℕ}
+use Prim.Native.Nat.{_+_, _<_, _^_, _≤_, suc, zero, ℕ}
 use lib.Dec.{eqb, leb, ltb}
 use native.Mathlib.Nat.{eq-or-lt-of-le, le-of-suc-le-suc, not-suc-le-zero}
 use native.Mathlib.Omega.{arith}
 use Rattle.atoms.specs.Atoms.{firstDerived, lastCredential, violation}
-use Rattle.atoms.specs.Sets.{Member, bit, member}
-use Rattle.atoms.proofs.SetLaws.{empty-subset, member-low, none-in-empty, subset-antisym}
+use Rattle.atoms.specs.Sets.{Member, bit, member, subset}
+use Rattle.atoms.proofs.SetLaws.{empty-subset, member-low, none-in-empty, subset-antisym, subset-true, true-subset}
 use Rattle.atoms.proofs.SizeLaws.{low-lt}
 use Rattle.atoms.proofs.TestLaws.{and-true, both-true, eqb-true, true-eqb}
 use Rattle.rules.specs.Rules.{Levelled, Rule}
@@ -16,7 +16,7 @@ use Rattle.policy.specs.Levels.{level}
 use Rattle.policy.specs.PolicyTest.{accessBody, accessHead, accessLevels, byKind, disclosureBody, disclosureHead, forAtoms, tests}
 use Rattle.policy.specs.Records.{Record, accessKind, disclosureKind}
 use Rattle.policy.specs.WrittenForm.{AccessBody, DisclosureBody, Form}
-use Rattle.policy.proofs.DecideLaws.{DecideAll, Decides, decides-and, decides-eq, decides-le, decides-lt, decides-not, decides-or}
+use Rattle.policy.proofs.DecideLaws.{DecideAll, Decides, decides-and, decides-eq, decides-le, decides-lt, decides-not, decides-or, same-decision}
 use Rattle.policy.proofs.ReadLaws.{Sized}
 
 -- ---- a test for every atom of a set
@@ -83,6 +83,21 @@ decides-levels r p n =
     both = decides-and _ _
         (decides-atoms (r .positive) p up (λ k. level k ≤ level (r .head)) (λ k. decides-le (level k) (level (r .head))))
         (decides-atoms (r .negated) n down (λ k. level k < level (r .head)) (λ k. decides-lt (level k) (level (r .head))))
+
+-- the same test, by the sets of the atoms up to the head's level and below it
+module _ (r : Rule) (p : r .positive < 2 ^ 64) (n : r .negated < 2 ^ 64) where
+  pub levels-by-sets : (upTo below : ℕ) → ((k : ℕ) → Member k upTo ↔ ((k ≤ violation) × (level k < level (r .head) + 1)))
+      → ((k : ℕ) → Member k below ↔ ((k ≤ violation) × (level k < level (r .head))))
+      → (subset (r .positive) upTo && subset (r .negated) below) ≡ accessLevels r
+  levels-by-sets upTo below u l = same-decision _ _ (λ e. record { positive = λ k m. omega (arith, u k .0 (subset-true (r .positive) upTo (both e .0) k m)); negated = λ k m. l k .0 (subset-true (r .negated) below (both e .1) k m) .1 }, back) (decides-levels r p n)
+    where
+      both : (subset (r .positive) upTo && subset (r .negated) below) ≡ true → (subset (r .positive) upTo ≡ true) × (subset (r .negated) below ≡ true)
+      both e = and-true (subset (r .positive) upTo) (subset (r .negated) below) e
+
+      back : Levelled level r → (subset (r .positive) upTo && subset (r .negated) below) ≡ true
+      back h = both-true
+          (true-subset (r .positive) upTo (λ k m. u k .1 (omega (arith, member-low (r .positive) 64 k p m), omega (arith, h .positive k m))))
+          (true-subset (r .negated) below (λ k m. l k .1 (omega (arith, member-low (r .negated) 64 k n m), h .negated k m)))
 
 -- ---- the record
 

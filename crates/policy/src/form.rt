@@ -3,85 +3,89 @@ ghost use mathlib.Core.Path.{_≡_};
 ghost use Rattle.policy.specs.PolicyTest.{accessBody, accessHead, accessLevels, disclosureBody, disclosureHead, recordRefusal};
 ghost use Rattle.policy.specs.Records.{accessKind, disclosureKind};
 ghost use Rattle.policy.specs.Types.{checkedOf, recordOf};
-use crate::level::{atoms_below, level};
-use crate::record::{Record, ACCESS, DISCLOSURE};
-use crate::{Checked, Refusal};
+use crate::Checked;
+use crate::Refusal;
+use crate::level::atoms_below;
+use crate::level::level;
+use crate::record::ACCESS;
+use crate::record::DISCLOSURE;
+use crate::record::Record;
 
 // The test of a record that stands at place k.
-pub(crate) fn check_record(record: Record, k: u8) -> Checked
-    ensures { λ r. ⌜ checkedOf r ≡ recordRefusal (recordOf «record») k ⌝ }
+pub(crate) fn check_record(parsed: Record, k: u8) -> Checked
+    ensures { λ r. ⌜ checkedOf r ≡ recordRefusal (recordOf parsed) k ⌝ }
 {
-    let kind = record.kind;
+    let kind = parsed.kind;
     match kind {
-        ACCESS => check_access(record, k),
-        DISCLOSURE => check_disclosure(record, k),
+        ACCESS => check_access(parsed, k),
+        DISCLOSURE => check_disclosure(parsed, k),
         _ => Checked::Refused(Refusal::Kind(k)),
     }
 }
 
-fn check_access(record: Record, k: u8) -> Checked
-    requires { ⌜ «record» .kind ≡ accessKind ⌝ }
-    ensures { λ r. ⌜ checkedOf r ≡ recordRefusal (recordOf «record») k ⌝ }
+fn check_access(parsed: Record, k: u8) -> Checked
+    requires { ⌜ parsed .kind ≡ accessKind ⌝ }
+    ensures { λ r. ⌜ checkedOf r ≡ recordRefusal (recordOf parsed) k ⌝ }
 {
-    if !access_head(record) {
+    if !access_head(parsed) {
         return Checked::Refused(Refusal::Head(k));
     }
-    if !access_body(record) {
+    if !access_body(parsed) {
         return Checked::Refused(Refusal::Body(k));
     }
-    if !access_levels(record) {
+    if !access_levels(parsed) {
         return Checked::Refused(Refusal::Level(k));
     }
     Checked::Accepted
 }
 
-fn check_disclosure(record: Record, k: u8) -> Checked
-    requires { ⌜ «record» .kind ≡ disclosureKind ⌝ }
-    ensures { λ r. ⌜ checkedOf r ≡ recordRefusal (recordOf «record») k ⌝ }
+fn check_disclosure(parsed: Record, k: u8) -> Checked
+    requires { ⌜ parsed .kind ≡ disclosureKind ⌝ }
+    ensures { λ r. ⌜ checkedOf r ≡ recordRefusal (recordOf parsed) k ⌝ }
 {
-    if !disclosure_head(record) {
+    if !disclosure_head(parsed) {
         return Checked::Refused(Refusal::Head(k));
     }
-    if !disclosure_body(record) {
+    if !disclosure_body(parsed) {
         return Checked::Refused(Refusal::Body(k));
     }
     Checked::Accepted
 }
 
 // 16 to 63.
-fn access_head(record: Record) -> bool
-    ensures { λ r. ⌜ r ≡ accessHead (recordOf «record» .rule) ⌝ }
+fn access_head(parsed: Record) -> bool
+    ensures { λ r. ⌜ r ≡ accessHead (recordOf parsed .rule) ⌝ }
 {
-    16 <= record.head && record.head <= 63
+    16 <= parsed.head && parsed.head <= 63
 }
 
 // Atom 63 on neither side.
-fn access_body(record: Record) -> bool
-    ensures { λ r. ⌜ r ≡ accessBody (recordOf «record» .rule) ⌝ }
+fn access_body(parsed: Record) -> bool
+    ensures { λ r. ⌜ r ≡ accessBody (recordOf parsed .rule) ⌝ }
 {
-    !record.positive.contains(63) && !record.negated.contains(63)
+    !parsed.positive.contains(63) && !parsed.negated.contains(63)
 }
 
 // No positive atom above the head's level, every negated one below it.
-fn access_levels(record: Record) -> bool
-    ensures { λ r. ⌜ r ≡ accessLevels (recordOf «record» .rule) ⌝ }
+fn access_levels(parsed: Record) -> bool
+    ensures { λ r. ⌜ r ≡ accessLevels (recordOf parsed .rule) ⌝ }
 {
-    let head = level(record.head);
+    let head = level(parsed.head);
     let up_to = atoms_below(head + 1);
     let below = atoms_below(head);
-    record.positive.is_subset(up_to) && record.negated.is_subset(below)
+    parsed.positive.is_subset(up_to) && parsed.negated.is_subset(below)
 }
 
 // 0 to 15.
-fn disclosure_head(record: Record) -> bool
-    ensures { λ r. ⌜ r ≡ disclosureHead (recordOf «record» .rule) ⌝ }
+fn disclosure_head(parsed: Record) -> bool
+    ensures { λ r. ⌜ r ≡ disclosureHead (recordOf parsed .rule) ⌝ }
 {
-    record.head <= 15
+    parsed.head <= 15
 }
 
 // Only credentials, none negated.
-fn disclosure_body(record: Record) -> bool
-    ensures { λ r. ⌜ r ≡ disclosureBody (recordOf «record» .rule) ⌝ }
+fn disclosure_body(parsed: Record) -> bool
+    ensures { λ r. ⌜ r ≡ disclosureBody (recordOf parsed .rule) ⌝ }
 {
-    record.positive.bits < 65536 && record.negated.bits == 0
+    parsed.positive.bits < 65536 && parsed.negated.bits == 0
 }

@@ -11,11 +11,7 @@ use atoms::AtomSet;
 pub fn level(atom: u8) -> u8
     ensures { λ r. ⌜ r ≡ level atom ⌝ }
 {
-    if atom == 63 {
-        8
-    } else {
-        atom / 8
-    }
+    if atom == 63 { 8 } else { atom / 8 }
 }
 
 // The atoms on the levels below one.
@@ -23,12 +19,13 @@ pub(crate) fn atoms_below(bound: u8) -> AtomSet
     ensures { λ r. ⌜ ((k : ℕ) → Member k (r .bits) ↔ ((k ≤ violation) × (level k < bound))) ⌝ }
 {
     if bound < 8 {
-        AtomSet { bits: (1u64 << (8 * bound)) - 1 }
-    } else {
-        if bound == 8 {
-            AtomSet { bits: u64::MAX / 2 }
-        } else {
-            AtomSet { bits: u64::MAX }
-        }
+        let atoms = 8 * bound;
+        let bits = (1u64 << atoms) - 1;
+        return AtomSet { bits };
     }
+    if bound > 8 {
+        return AtomSet { bits: u64::MAX };
+    }
+    // All but atom 63.
+    AtomSet { bits: u64::MAX / 2 }
 }

@@ -1,9 +1,12 @@
 // Policies: the record reader and the policy's test (document 01, "Atoms and records" and "Who can be turned back").
 ghost use mathlib.Core.Path.{_≡_};
-ghost use Prim.Native.Nat.{_*_, _+_, _≤_};
+ghost use Prim.Native.Nat.{_*_, _+_, _<_, _≤_};
 ghost use lib.ListN.{length};
-ghost use Rattle.policy.specs.PolicyTest.{policyRefusal, recordsRefusal};
+ghost use Rattle.policy.specs.PolicyTest.{policyRefusal, recordRefusal, recordsRefusal};
+ghost use Rattle.policy.specs.Records.{recordAt};
 ghost use Rattle.policy.specs.Types.{checkedOf};
+use form::check_record;
+use record::read_record;
 
 mod form;
 pub mod level;
@@ -38,7 +41,8 @@ pub fn check(policy: &[u8]) -> Checked
     }
     let records = bytes / 18;
     if bytes % 18 != 0 {
-        return Checked::Refused(Refusal::NotWhole(records as u8));
+        let whole = records as u8;
+        return Checked::Refused(Refusal::NotWhole(whole));
     }
     check_records(policy, records)
 }
@@ -50,11 +54,21 @@ fn check_records(policy: &[u8], records: usize) -> Checked
 {
     let mut k: usize = 0;
     while k < records {
-        let checked = form::check_record(record::read_record(&policy[18 * k..18 * k + 18]), k as u8);
+        let checked = check_at(policy, k);
         let Checked::Accepted = checked else {
             return checked;
         };
         k += 1;
     }
     Checked::Accepted
+}
+
+// The test of record k, which is there.
+fn check_at(policy: &[u8], k: usize) -> Checked
+    requires { ⌜ (18 * k + 18 ≤ length (now policy)) × (k < 128) ⌝ }
+    ensures { λ r. ⌜ checkedOf r ≡ recordRefusal (recordAt (now (policy .entry)) k) k ⌝ }
+{
+    let parsed = read_record(&policy[18 * k..18 * k + 18]);
+    let place = k as u8;
+    check_record(parsed, place)
 }

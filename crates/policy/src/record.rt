@@ -1,13 +1,14 @@
 // The record reader.
 ghost use mathlib.Core.Path.{_≡_};
 ghost use Prim.Native.Nat.{_+_, _<_, _≤_};
-ghost use lib.ListN.{drop, getD, take};
-ghost use Rattle.atoms.specs.LittleEndian.{littleEndian};
+ghost use lib.ListN.{getD};
+ghost use Rattle.atoms.specs.LittleEndian.{wordAt};
 ghost use Rattle.policy.specs.Records.{readRecord};
 ghost use Rattle.policy.specs.Types.{recordOf};
 use atoms::AtomSet;
 
 pub const ACCESS: u8 = 1;
+
 pub const DISCLOSURE: u8 = 2;
 
 // A policy's record.
@@ -28,8 +29,12 @@ pub fn read_record(bytes: &[u8]) -> Record
     Record {
         kind: byte(bytes, 0),
         head: byte(bytes, 1),
-        positive: AtomSet { bits: word(bytes, 2) },
-        negated: AtomSet { bits: word(bytes, 10) },
+        positive: AtomSet {
+            bits: word(bytes, 2),
+        },
+        negated: AtomSet {
+            bits: word(bytes, 10),
+        },
     }
 }
 
@@ -37,11 +42,7 @@ pub fn read_record(bytes: &[u8]) -> Record
 fn byte(bytes: &[u8], at: usize) -> u8
     ensures { λ r. ⌜ r ≡ getD (now (bytes .entry)) at 0 ⌝ }
 {
-    if at < bytes.len() {
-        bytes[at]
-    } else {
-        0
-    }
+    if at < bytes.len() { bytes[at] } else { 0 }
 }
 
 // The same byte, widened.
@@ -54,12 +55,20 @@ fn wide(bytes: &[u8], at: usize) -> u64
 // The little-endian number of the eight bytes from a place.
 fn word(bytes: &[u8], at: usize) -> u64
     requires { ⌜ at ≤ 10 ⌝ }
-    ensures { λ r. ⌜ r ≡ littleEndian (take 8 (drop at (now (bytes .entry)))) ⌝ }
+    ensures { λ r. ⌜ r ≡ wordAt (now (bytes .entry)) at ⌝ }
 {
     wide(bytes, at)
-        + 256 * (wide(bytes, at + 1)
-            + 256 * (wide(bytes, at + 2)
-                + 256 * (wide(bytes, at + 3)
-                    + 256 * (wide(bytes, at + 4)
-                        + 256 * (wide(bytes, at + 5) + 256 * (wide(bytes, at + 6) + 256 * wide(bytes, at + 7)))))))
+        + 256
+            * (wide(bytes, at + 1)
+                + 256
+                    * (wide(bytes, at + 2)
+                        + 256
+                            * (wide(bytes, at + 3)
+                                + 256
+                                    * (wide(bytes, at + 4)
+                                        + 256
+                                            * (wide(bytes, at + 5)
+                                                + 256
+                                                    * (wide(bytes, at + 6)
+                                                        + 256 * wide(bytes, at + 7)))))))
 }

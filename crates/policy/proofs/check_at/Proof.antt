@@ -1,0 +1,61 @@
+-- `policy::check_at` meets its contract: the part that is handed on is record k. Assumes nothing.
+use borrow.Author.Needs.{needs}
+use denote.Ref.{now}
+use lib.ListN.{drop, take}
+use mathlib.Core.Path.{_∙_, _≡_, ap}
+use native.Mathlib.Omega.{arith}
+use Prim.Native.Nat.{_*_, _+_, _-_, ℕ}
+use Rattle.policy.specs.PolicyTest.{recordRefusal}
+use Rattle.policy.specs.Records.{Record, readRecord}
+use Rattle.policy.proofs.check_at.Statement.{statement}
+use Rattle.policy.proofs.check_at.Tie as tie
+
+mul-read-record : tie.Need-mul-read-record
+mul-read-record c = search needs
+
+mul-read-record-2 : tie.Need-mul-read-record-2
+mul-read-record-2 c = search needs
+
+add-read-record : tie.Need-add-read-record
+add-read-record c = search needs
+
+sub-read-record : tie.Need-sub-read-record
+sub-read-record c = search needs
+
+part-read-record-start : tie.Need-part-read-record-start
+part-read-record-start c = search needs
+
+part-read-record-end : tie.Need-part-read-record-end
+part-read-record-end c = search needs
+
+read-record-requires : tie.Need-read-record-requires
+read-record-requires c κs = search needs
+
+cast-place : tie.Need-cast-place
+cast-place c = search needs
+
+check-record-requires : tie.Need-check-record-requires
+check-record-requires c κs = search needs
+
+returns : tie.Need-returns
+returns c =
+    let a = c .before .before .before .before .args in
+    let whole : 18 * a .k + 18 - 18 * a .k ≡ 18 = omega arith in
+    c .check-record .ensures
+    ∙ ap (λ (d : Record). recordRefusal d (a .k))
+    (c .before .read-record .ensures .0 ∙ ap (λ (n : ℕ). readRecord (take n (drop (18 * a .k) (now (a .policy))))) whole)
+
+pub check-at-spec : {M : Type 1} → statement M
+check-at-spec =
+    tie.close
+    (tie.spec
+    mul-read-record
+    mul-read-record-2
+    add-read-record
+    sub-read-record
+    part-read-record-start
+    part-read-record-end
+    read-record-requires
+    cast-place
+    check-record-requires
+    returns)
