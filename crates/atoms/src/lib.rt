@@ -2,6 +2,13 @@
 ghost use mathlib.Core.Path.{_≡_};
 ghost use Rattle.atoms.specs.Sets.{difference, empty, intersection, member, single, size, subset, union};
 
+// Atoms 0 to 15 are credentials, 16 to 62 derived.
+pub const LAST_CREDENTIAL: u8 = 15;
+
+pub const FIRST_DERIVED: u8 = 16;
+// The breach mark: the head of an integrity constraint.
+pub const VIOLATION: u8 = 63;
+
 // A set of atoms: bit k stands for atom k.
 pub struct AtomSet {
     pub bits: u64,
@@ -14,7 +21,7 @@ impl AtomSet {
     pub fn one(atom: u8) -> AtomSet
         ensures { λ r. ⌜ r .bits ≡ single atom ⌝ }
     {
-        if atom <= 63 {
+        if atom <= VIOLATION {
             AtomSet { bits: 1u64 << atom }
         } else {
             AtomSet::EMPTY
@@ -56,7 +63,7 @@ impl AtomSet {
     pub fn contains(self, atom: u8) -> bool
         ensures { λ r. ⌜ r ≡ member atom (self .bits) ⌝ }
     {
-        if atom <= 63 {
+        if atom <= VIOLATION {
             (self.bits >> atom) % 2 == 1
         } else {
             false

@@ -10,6 +10,12 @@ use crate::level::level;
 use crate::record::ACCESS;
 use crate::record::DISCLOSURE;
 use crate::record::Record;
+use atoms::FIRST_DERIVED;
+use atoms::FIRST_DERIVED;
+use atoms::LAST_CREDENTIAL;
+use atoms::LAST_CREDENTIAL;
+use atoms::VIOLATION;
+use atoms::VIOLATION;
 
 // The test of a record that stands at place k.
 pub(crate) fn check_record(parsed: Record, k: u8) -> Checked
@@ -56,14 +62,14 @@ fn check_disclosure(parsed: Record, k: u8) -> Checked
 fn access_head(parsed: Record) -> bool
     ensures { λ r. ⌜ r ≡ accessHead (recordOf parsed .rule) ⌝ }
 {
-    16 <= parsed.head && parsed.head <= 63
+    FIRST_DERIVED <= parsed.head && parsed.head <= VIOLATION
 }
 
 // Atom 63 on neither side.
 fn access_body(parsed: Record) -> bool
     ensures { λ r. ⌜ r ≡ accessBody (recordOf parsed .rule) ⌝ }
 {
-    !parsed.positive.contains(63) && !parsed.negated.contains(63)
+    !parsed.positive.contains(VIOLATION) && !parsed.negated.contains(VIOLATION)
 }
 
 // No positive atom above the head's level, every negated one below it.
@@ -80,7 +86,7 @@ fn access_levels(parsed: Record) -> bool
 fn disclosure_head(parsed: Record) -> bool
     ensures { λ r. ⌜ r ≡ disclosureHead (recordOf parsed .rule) ⌝ }
 {
-    parsed.head <= 15
+    parsed.head <= LAST_CREDENTIAL
 }
 
 // Only credentials, none negated.

@@ -6,12 +6,13 @@ ghost use Rattle.atoms.specs.Atoms.{violation};
 ghost use Rattle.atoms.specs.Sets.{Member};
 ghost use Rattle.policy.specs.Levels.{level};
 use atoms::AtomSet;
+use atoms::VIOLATION;
 
 // The level of an atom: a byte that is no atom is given one too.
 pub fn level(atom: u8) -> u8
     ensures { λ r. ⌜ r ≡ level atom ⌝ }
 {
-    if atom == 63 { 8 } else { atom / 8 }
+    if atom == VIOLATION { 8 } else { atom / 8 }
 }
 
 // The atoms on the levels below one.

@@ -51,8 +51,8 @@ loop-again c =
     let l = c .before .before .before .before .loop in (
       omega arith,
       l .inv .1
-      ∙ records-kept (now (a .policy)) (l .k) (a .records) (c .before .before .before .loop-test .taken)
-      (sym (c .before .before .check-at .ensures) ∙ ap checkedOf (c .enum-told .given .1)),
+          ∙ records-kept (now (a .policy)) (l .k) (a .records) (c .before .before .before .loop-test .taken)
+          (sym (c .before .before .check-at .ensures) ∙ ap checkedOf (c .enum-told .given .1)),
     )
 
 returns-2 : tie.Need-returns-2 Inv-loop μ-loop

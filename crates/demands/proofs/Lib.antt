@@ -1,0 +1,4 @@
+-- The proofs of the claims.
+pub mod WritingLaws
+pub mod MarkedCases
+pub mod ClaimsProof
