@@ -11,10 +11,7 @@ use crate::record::ACCESS;
 use crate::record::DISCLOSURE;
 use crate::record::Record;
 use atoms::FIRST_DERIVED;
-use atoms::FIRST_DERIVED;
 use atoms::LAST_CREDENTIAL;
-use atoms::LAST_CREDENTIAL;
-use atoms::VIOLATION;
 use atoms::VIOLATION;
 
 // The test of a record that stands at place k.
