@@ -10,8 +10,8 @@ use Rattle.policy.specs.Types.{checkedOf, recordOf, refusalOf}
 use Rattle.policy.specs.WrittenForm as W
 use Rattle.policy.specs.declared.Checked.{Checked}
 use Rattle.policy.specs.declared.Checked.the-variants.{Accepted, Refused}
-use Rattle.policy.specs.declared.Refusal.{Refusal}
-use Rattle.policy.specs.declared.Refusal.the-variants.{Body, Head, Kind, Level, NotWhole, TooLong}
+use Rattle.policy.specs.declared.refusal.Refusal.{Refusal}
+use Rattle.policy.specs.declared.refusal.Refusal.the-variants.{Body, Head, Kind, Level, NotWhole, TooLong}
 use Rattle.policy.specs.declared.record.Record.{Record}
 
 -- a map with a way back is one-to-one

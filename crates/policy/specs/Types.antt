@@ -3,8 +3,8 @@ use mathlib.Core.Option.{Option, none, some}
 use Rattle.policy.specs.Records as R
 use Rattle.policy.specs.WrittenForm as W
 use Rattle.policy.specs.declared.record.Record.{Record}
-use Rattle.policy.specs.declared.Refusal.{Refusal}
-use Rattle.policy.specs.declared.Refusal.the-variants.{TooLong, NotWhole, Kind, Head, Body, Level}
+use Rattle.policy.specs.declared.refusal.Refusal.{Refusal}
+use Rattle.policy.specs.declared.refusal.Refusal.the-variants.{TooLong, NotWhole, Kind, Head, Body, Level}
 use Rattle.policy.specs.declared.Checked.{Checked}
 use Rattle.policy.specs.declared.Checked.the-variants.{Accepted, Refused}
 

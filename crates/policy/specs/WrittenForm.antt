@@ -63,6 +63,12 @@ RecordKept d = AllKept (Form d)
 pub data Refusal : Type 0 where
   at : ℕ → ℕ → Refusal
 
+abbrev pub numberOf : Refusal → ℕ
+numberOf (at n k) = n
+
+abbrev pub placeOf : Refusal → ℕ
+placeOf (at n k) = k
+
 -- "1: more than 2,304 bytes; record number 128." "2: length not a multiple of 18; number of whole records."
 abbrev pub Lengths : List ℕ → List (Type 0 × Refusal)
 Lengths bytes = (length bytes ≤ 2304, at 1 128) ∷ (length bytes % 18 ≡ 0, at 2 (wholeRecords bytes)) ∷ []

@@ -4,12 +4,12 @@ ghost use Rattle.policy.specs.PolicyTest.{accessBody, accessHead, access
 ghost use Rattle.policy.specs.Records.{accessKind, disclosureKind};
 ghost use Rattle.policy.specs.Types.{checkedOf, recordOf};
 use crate::Checked;
-use crate::Refusal;
 use crate::level::atoms_below;
 use crate::level::level;
 use crate::record::ACCESS;
 use crate::record::DISCLOSURE;
 use crate::record::Record;
+use crate::refusal::Refusal;
 use atoms::FIRST_DERIVED;
 use atoms::LAST_CREDENTIAL;
 use atoms::VIOLATION;

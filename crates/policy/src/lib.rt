@@ -7,22 +7,12 @@ ghost use Rattle.policy.specs.Records.{recordAt};
 ghost use Rattle.policy.specs.Types.{checkedOf};
 use form::check_record;
 use record::read_record;
+use refusal::Refusal;
 
 mod form;
 pub mod level;
 pub mod record;
-
-// Why a policy is refused: each case but the first with the record's number, counted from 0.
-pub enum Refusal {
-    // More than 2,304 bytes.
-    TooLong,
-    // A length that is not a multiple of 18.
-    NotWhole(u8),
-    Kind(u8),
-    Head(u8),
-    Body(u8),
-    Level(u8),
-}
+pub mod refusal;
 
 // What the policy's test answers.
 pub enum Checked {
