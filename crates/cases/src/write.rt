@@ -1,0 +1,55 @@
+// Records as bytes.
+ghost use mathlib.Core.Path.{_≡_};
+ghost use Prim.Native.Nat.{_<_};
+ghost use lib.ListN.{length};
+use atoms::AtomSet;
+use atoms::FIRST_DERIVED;
+use policy::record::ACCESS;
+
+// An access record for atom 16 with an empty body, 128 times, and one byte more.
+pub(crate) fn always_16() -> [u8; 2305]
+    ensures { λ r. ⌜ length r ≡ 2305 ⌝ }
+{
+    let mut policy = [0u8; 2305];
+    let mut k: usize = 0;
+    while k < 128 {
+        policy[18 * k] = ACCESS;
+        policy[18 * k + 1] = FIRST_DERIVED;
+        k += 1;
+    }
+    policy
+}
+
+// A record of a kind.
+pub(crate) fn record(kind: u8, head: u8, positive: AtomSet, negated: AtomSet) -> [u8; 18]
+    ensures { λ r. ⌜ length r ≡ 18 ⌝ }
+{
+    [
+        kind,
+        head,
+        byte(positive, 0),
+        byte(positive, 1),
+        byte(positive, 2),
+        byte(positive, 3),
+        byte(positive, 4),
+        byte(positive, 5),
+        byte(positive, 6),
+        byte(positive, 7),
+        byte(negated, 0),
+        byte(negated, 1),
+        byte(negated, 2),
+        byte(negated, 3),
+        byte(negated, 4),
+        byte(negated, 5),
+        byte(negated, 6),
+        byte(negated, 7),
+    ]
+}
+
+// One of a set's eight bytes, the lowest first.
+fn byte(set: AtomSet, at: u8) -> u8
+    requires { ⌜ at < 8 ⌝ }
+{
+    let shift = 8 * at;
+    ((set.bits >> shift) % 256) as u8
+}
