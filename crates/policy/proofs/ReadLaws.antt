@@ -1,12 +1,15 @@
 -- What is read from bytes. Assumes nothing.
+use mathlib.Core.Path.{_≡_, ap}
+use mathlib.Core.Bool.{Bool, cond}
 use mathlib.Core.List.{List}
-use Prim.Native.Nat.{_*_, _+_, _<_, _^_, _≤_, suc, zero, ℕ}
-use lib.ListN.{drop, length-take, take}
+use Prim.Native.Nat.{_*_, _+_, _-_, _<_, _^_, _≤_, suc, zero, ℕ}
+use lib.ListN.{drop, length, length-drop, length-take, take}
+use borrow.Author.Tests.{le-leb}
 use native.Mathlib.Omega.{arith}
 use Rattle.atoms.specs.LittleEndian.{Bytes, littleEndian}
 use Rattle.atoms.proofs.ByteLaws.{bytes-drop, bytes-take, littleEndian-lt}
 use Rattle.rules.specs.Rules.{Every}
-use Rattle.policy.specs.Records.{Record, readRecord, recordAt, recordsFrom}
+use Rattle.policy.specs.Records.{Record, blank, readPart, readRecord, recordAt, recordsFrom}
 
 -- eight bytes are a 64-bit number
 word-lt : (n : ℕ) (bs : List ℕ) → Bytes bs → littleEndian (take 8 (drop n bs)) < 2 ^ 64
@@ -27,6 +30,15 @@ record-sized bytes h k = record { positive = word-lt 2 part inside; negated = wo
 
     inside : Bytes part
     inside = bytes-take 18 (drop (18 * k) bytes) (bytes-drop (18 * k) bytes h)
+
+-- the part that is handed to the reader, where the policy has record k
+pub part-read : (bytes : List ℕ) (k : ℕ) → 18 * k + 18 ≤ length bytes → readPart (take (18 * k + 18 - 18 * k) (drop (18 * k) bytes)) ≡ recordAt bytes k
+part-read bytes k l =
+    let whole : 18 * k + 18 - 18 * k ≡ 18 = omega arith in
+    rw whole (ap (λ (b : Bool). cond b (recordAt bytes k) blank) (le-leb 18 (length (take 18 (drop (18 * k) bytes))) fits))
+  where
+    fits : 18 ≤ length (take 18 (drop (18 * k) bytes))
+    fits = simp (length-take {A = ℕ}, length-drop {A = ℕ}) (omega arith)
 
 -- what holds of the record at each place holds of every record
 pub every-record : (P : Record → Type 0) (bytes : List ℕ) (k n : ℕ) → ((j : ℕ) → k ≤ j → j < k + n → P (recordAt bytes j))

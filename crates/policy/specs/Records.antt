@@ -2,9 +2,10 @@
 use mathlib.Core.Bool.{cond}
 use mathlib.Core.List.{List, [], _∷_}
 use Prim.Native.Nat.{_*_, _/_, suc, zero, ℕ}
-use lib.Dec.{eqb}
+use lib.Dec.{eqb, leb}
 use lib.ListN.{drop, getD, length, take}
 use Rattle.atoms.specs.LittleEndian.{littleEndian}
+use Rattle.atoms.specs.Sets.{empty}
 use Rattle.rules.specs.Rules.{Rule}
 
 -- "Byte 0 is the kind: 1 access, 2 disclosure."
@@ -30,6 +31,14 @@ readRecord bytes = record {
     negated = littleEndian (take 8 (drop 10 bytes));
   };
 }
+
+-- fewer than 18 bytes say no record: a blank one, of no kind
+abbrev pub blank : Record
+blank = record { kind = 0; rule = record { head = 0; positive = empty; negated = empty } }
+
+-- what the record reader gives of a part of a policy
+abbrev pub readPart : List ℕ → Record
+readPart bytes = cond (leb 18 (length bytes)) (readRecord bytes) blank
 
 -- "record k is the part that begins at byte 18 times k"
 abbrev pub recordAt : List ℕ → ℕ → Record

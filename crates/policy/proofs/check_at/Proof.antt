@@ -1,12 +1,10 @@
 -- `policy::check_at` meets its contract: the part that is handed on is record k. Assumes nothing.
 use borrow.Author.Needs.{needs}
 use denote.Ref.{now}
-use lib.ListN.{drop, take}
-use mathlib.Core.Path.{_∙_, _≡_, ap}
-use native.Mathlib.Omega.{arith}
-use Prim.Native.Nat.{_*_, _+_, _-_, ℕ}
+use mathlib.Core.Path.{_∙_, ap}
 use Rattle.policy.specs.PolicyTest.{recordRefusal}
-use Rattle.policy.specs.Records.{Record, readRecord}
+use Rattle.policy.specs.Records.{Record}
+use Rattle.policy.proofs.ReadLaws.{part-read}
 use Rattle.policy.proofs.check_at.Statement.{statement}
 use Rattle.policy.proofs.check_at.Tie as tie
 
@@ -39,11 +37,9 @@ check-record-requires c κs = search needs
 
 returns : tie.Need-returns
 returns c =
-    let a = c .before .before .before .before .args in
-    let whole : 18 * a .k + 18 - 18 * a .k ≡ 18 = omega arith in
+    let s = c .before .before .before .before in
     c .check-record .ensures
-    ∙ ap (λ (d : Record). recordRefusal d (a .k))
-    (c .before .read-record .ensures .0 ∙ ap (λ (n : ℕ). readRecord (take n (drop (18 * a .k) (now (a .policy))))) whole)
+    ∙ ap (λ (d : Record). recordRefusal d (s .args .k)) (c .before .read-record .ensures .0 ∙ part-read (now (s .args .policy)) (s .args .k) (s .pre .0))
 
 pub check-at-spec : {M : Type 1} → statement M
 check-at-spec =

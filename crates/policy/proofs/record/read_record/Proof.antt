@@ -1,5 +1,6 @@
--- `policy::record::read_record` meets its contract: each field is what the reader of its bytes gives. Assumes nothing.
+-- `policy::record::read_record` meets its contract: each field is what its bytes say. Assumes nothing.
 use borrow.Author.Needs.{needs}
+use borrow.Author.Tests.{le-leb, lt-leb}
 use denote.Ref.{now}
 use mathlib.Core.Path.{refl}
 use Rattle.atoms.proofs.ByteLaws.{word-is}
@@ -7,11 +8,14 @@ use Rattle.policy.specs.Records.{readRecord}
 use Rattle.policy.proofs.record.read_record.Statement.{statement}
 use Rattle.policy.proofs.record.read_record.Tie as tie
 
-byte-requires : tie.Need-byte-requires
-byte-requires c κs = search needs
+returns : tie.Need-returns
+returns c = (simp (lt-leb 18 _ (c .if1 .taken)), refl)
 
-byte-requires-2 : tie.Need-byte-requires-2
-byte-requires-2 c κs = search needs
+shared-slice-read-kind : tie.Need-shared-slice-read-kind
+shared-slice-read-kind c = search needs
+
+shared-slice-read-head : tie.Need-shared-slice-read-head
+shared-slice-read-head c = search needs
 
 word-requires : tie.Need-word-requires
 word-requires c κs = search needs
@@ -19,21 +23,27 @@ word-requires c κs = search needs
 word-requires-2 : tie.Need-word-requires-2
 word-requires-2 c κs = search needs
 
-returns : tie.Need-returns
+returns-2 : tie.Need-returns-2
 unfolding readRecord
-returns c =
-    let a = c .before .before .before .before .before .args in (
+returns-2 c =
+    let bytes = now (c .before .before .before .before .before .before .args .bytes) in (
       simp (
-        c .before .before .before .byte .ensures,
-        c .before .before .byte2 .ensures,
+        le-leb 18 _ (c .before .before .before .before .if1 .left),
         c .before .word .ensures,
         c .word2 .ensures,
-        word-is (now (a .bytes)) 2,
-        word-is (now (a .bytes)) 10,
+        word-is bytes 2,
+        word-is bytes 10,
       ),
       refl,
     )
 
 pub read-record-spec : {M : Type 1} → statement M
 read-record-spec =
-    tie.close (tie.spec byte-requires byte-requires-2 word-requires word-requires-2 returns)
+    tie.close
+    (tie.spec
+    returns
+    shared-slice-read-kind
+    shared-slice-read-head
+    word-requires
+    word-requires-2
+    returns-2)
