@@ -2,8 +2,8 @@
 use crate::print;
 use crate::write;
 use atoms::AtomSet;
-use policy::record::ACCESS;
-use policy::record::DISCLOSURE;
+use records::ACCESS;
+use records::DISCLOSURE;
 
 // An empty side of a body: no atom.
 const NONE: u8 = 64;

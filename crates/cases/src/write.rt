@@ -4,7 +4,7 @@ ghost use Prim.Native.Nat.{_<_};
 ghost use lib.ListN.{length};
 use atoms::AtomSet;
 use atoms::FIRST_DERIVED;
-use policy::record::ACCESS;
+use records::ACCESS;
 
 // An access record for atom 16 with an empty body, 128 times, and one byte more.
 pub(crate) fn always_16() -> [u8; 2305]

@@ -3,7 +3,7 @@ use mathlib.Core.Option.{orElse}
 use mathlib.Core.Path.{refl}
 use Rattle.atoms.specs.LittleEndian.{littleEndian}
 use Rattle.policy.specs.PolicyTest.{accessLevels, firstFailed, forAtoms, policyRefusal, recordRefusal, recordsRefusal}
-use Rattle.policy.specs.Records.{readRecord}
+use Rattle.records.specs.Records.{readRecord}
 use Rattle.demands.specs.Marked.{Marked}
 use Rattle.demands.specs.Writing.{_if_not_, bytesOf, recordBytes, setOf}
 

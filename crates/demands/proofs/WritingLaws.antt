@@ -3,7 +3,7 @@ use mathlib.Core.Path.{_≡_, refl}
 use Prim.Native.Nat.{_/_, _<_, _^_, suc, zero, ℕ}
 use native.Mathlib.Omega.{arith}
 use Rattle.atoms.specs.LittleEndian.{littleEndian}
-use Rattle.policy.specs.Records.{readRecord}
+use Rattle.records.specs.Records.{readRecord}
 use Rattle.demands.specs.Writing.{bytesOf, recordBytes}
 
 littleEndian-bytesOf : (n s : ℕ) → s < 256 ^ n → littleEndian (bytesOf n s) ≡ s

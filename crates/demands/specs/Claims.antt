@@ -1,10 +1,10 @@
--- The theorems that a customer reads, on one page; proofs/ClaimsProof has them all. What they leave to belief: that `level` (policy's specs/Levels) and
+-- The theorems that a customer reads, on one page; proofs/ClaimsProof has them all. What they leave to belief: that `level` (records' specs/Levels) and
 -- the maps from the program's types (policy's specs/Types) say what the paper says. Assumes nothing.
 use mathlib.Core.Path.{_≡_}
 use Prim.Native.Nat.{_<_, _^_, ℕ}
 use Rattle.atoms.specs.Meaning.{Meaning}
 use Rattle.rules.specs.Theorems as rules
-use Rattle.policy.specs.Records.{readRecord}
+use Rattle.records.specs.Records.{readRecord}
 use Rattle.policy.specs.Theorems as policy
 use Rattle.demands.specs.Marked.{Marked}
 use Rattle.demands.specs.Writing.{recordBytes}

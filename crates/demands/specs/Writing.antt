@@ -2,7 +2,7 @@
 use mathlib.Core.List.{List, [], _++_, _∷_}
 use Prim.Native.Nat.{_%_, _/_, suc, zero, ℕ}
 use Rattle.atoms.specs.Sets.{empty, single, union}
-use Rattle.policy.specs.Records.{accessKind}
+use Rattle.records.specs.Records.{accessKind}
 
 unfoldable pub setOf : List ℕ → ℕ
 setOf [] = empty

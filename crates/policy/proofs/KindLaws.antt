@@ -6,7 +6,7 @@ use mathlib.Core.Option.{Option, Option·map, some}
 use Prim.Native.Nat.{ℕ}
 use borrow.Author.Tests.{ne-eqb}
 use Rattle.policy.specs.PolicyTest.{accessBody, accessHead, accessLevels, disclosureBody, disclosureHead, firstFailed, recordRefusal}
-use Rattle.policy.specs.Records.{Record, accessKind, disclosureKind}
+use Rattle.records.specs.Records.{Record, accessKind, disclosureKind}
 use Rattle.policy.specs.WrittenForm.{Refusal, at}
 
 -- the refusal, at record k, of the first of these tests that fails

@@ -1,7 +1,6 @@
 -- The laws of tests, records, levels and the written form.
 pub mod DecideLaws
-pub mod ReadLaws
-pub mod LevelLaws
+pub mod LevelSetLaws
 pub mod KindLaws
 pub mod RecordLaws
 pub mod RefusalLaws

@@ -8,7 +8,7 @@ use lib.ListN.{length}
 use native.Mathlib.Nat.{le-of-suc-le-suc, lt-of-not-le, not-suc-le-zero}
 use native.Mathlib.Omega.{arith}
 use Rattle.rules.specs.Rules.{Every}
-use Rattle.policy.specs.Records.{Record, recordAt, wholeRecords}
+use Rattle.records.specs.Records.{Record, recordAt, wholeRecords}
 use Rattle.policy.specs.Theorems.{FirstFault, Numbers, Tested}
 use Rattle.policy.specs.WrittenForm.{AllKept, FirstBroken, Form, Lengths, PolicyRefused, RecordRefused, Refusal, at}
 use Rattle.policy.proofs.RefusalLaws.{number-is, place-is}

@@ -11,10 +11,10 @@ use Rattle.rules.specs.Model.{model}
 use Rattle.rules.specs.Rules.{Every, Rule, Stratified}
 use Rattle.rules.specs.Stable.{OneStable}
 use Rattle.rules.proofs.TheoremsProof as rules
-use Rattle.policy.specs.Levels.{level}
-use Rattle.policy.specs.Records.{Record, accessKind, ofKind, recordAt, recordsFrom, rulesOf, wholeRecords}
+use Rattle.records.specs.Levels.{level}
+use Rattle.records.specs.Records.{Record, accessKind, ofKind, recordAt, recordsFrom, rulesOf, wholeRecords}
 use Rattle.policy.specs.WrittenForm.{HeadKept, LevelsKept, RecordKept, WellFormed}
-use Rattle.policy.proofs.ReadLaws.{every-record, record-sized}
+use Rattle.records.proofs.ReadLaws.{every-record, record-sized}
 
 -- what each record keeps, by name
 pub head-kept : (d : Record) → RecordKept d → HeadKept d

@@ -1,22 +1,16 @@
--- What the program's types mean is one-to-one: each map has a way back. Assumes nothing.
-use mathlib.Core.Path.{_∙_, _≡_, ap, refl, sym}
+-- What the test's answers mean is one-to-one: the map has a way back. Assumes nothing.
+use mathlib.Core.Path.{_≡_, ap, refl}
 use mathlib.Core.Bool.{cond}
 use mathlib.Core.Option.{Option, none, some}
 use Prim.Native.Nat.{ℕ}
 use lib.Dec.{eqb}
-use Rattle.policy.specs.Records as R
-use Rattle.policy.specs.Theorems.{OneToOne}
-use Rattle.policy.specs.Types.{checkedOf, recordOf, refusalOf}
+use Rattle.atoms.proofs.TestLaws.{one-to-one}
+use Rattle.policy.specs.Types.{checkedOf, refusalOf}
 use Rattle.policy.specs.WrittenForm as W
 use Rattle.policy.specs.declared.Checked.{Checked}
 use Rattle.policy.specs.declared.Checked.the-variants.{Accepted, Refused}
 use Rattle.policy.specs.declared.refusal.Refusal.{Refusal}
 use Rattle.policy.specs.declared.refusal.Refusal.the-variants.{Body, Head, Kind, Level, NotWhole, TooLong}
-use Rattle.policy.specs.declared.record.Record.{Record}
-
--- a map with a way back is one-to-one
-one-to-one-by : {A B : Type 0} (f : A → B) (g : B → A) → ((x : A) → g (f x) ≡ x) → (x y : A) → f x ≡ f y → x ≡ y
-one-to-one-by f g back x y e = sym (back x) ∙ ap g e ∙ back y
 
 refusalBack : W.Refusal → Refusal
 refusalBack (W.at n k) =
@@ -40,20 +34,5 @@ unfolding checkedBack
 checked-back Accepted = refl
 checked-back (Refused f) = ap Refused (refusal-back f)
 
-recordBack : R.Record → Record
-recordBack d = record {
-  kind = d .kind;
-  head = d .rule .head;
-  positive = record { bits = d .rule .positive };
-  negated = record { bits = d .rule .negated };
-}
-
-record-back : (x : Record) → recordBack (recordOf x) ≡ x
-unfolding recordBack
-record-back x = refl
-
-pub one-to-one : OneToOne
-one-to-one = record {
-  checked = one-to-one-by checkedOf checkedBack checked-back;
-  records = one-to-one-by recordOf recordBack record-back;
-}
+pub checked-one : (x y : Checked) → checkedOf x ≡ checkedOf y → x ≡ y
+checked-one = one-to-one checkedOf checkedBack checked-back

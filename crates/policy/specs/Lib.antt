@@ -1,6 +1,4 @@
 -- Policies, in the order of reading.
-pub mod Records
-pub mod Levels
 pub mod WrittenForm
 pub mod PolicyTest
 pub mod Types

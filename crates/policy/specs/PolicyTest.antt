@@ -9,8 +9,8 @@ use lib.ListN.{length}
 use Rattle.atoms.specs.Atoms.{firstDerived, lastCredential, violation}
 use Rattle.atoms.specs.Sets.{empty, member}
 use Rattle.rules.specs.Rules.{Rule}
-use Rattle.policy.specs.Levels.{level}
-use Rattle.policy.specs.Records.{Record, accessKind, disclosureKind, recordAt, wholeRecords}
+use Rattle.records.specs.Levels.{level}
+use Rattle.records.specs.Records.{Record, accessKind, disclosureKind, recordAt, wholeRecords}
 use Rattle.policy.specs.WrittenForm.{Refusal, at}
 
 -- ---- the tests of a record

@@ -9,13 +9,14 @@ use Rattle.atoms.specs.LittleEndian.{Bytes}
 use Rattle.rules.specs.Model.{model}
 use Rattle.rules.specs.Rules.{Every, Stratified}
 use Rattle.rules.specs.Stable.{OneStable}
-use Rattle.policy.specs.Levels.{level}
+use Rattle.records.specs.Levels.{level}
 use Rattle.policy.specs.PolicyTest.{policyRefusal}
-use Rattle.policy.specs.Records.{Record, accessKind, recordAt, rulesOf, wholeRecords}
-use Rattle.policy.specs.Types.{checkedOf, recordOf}
+use Rattle.records.specs.Records.{Record, accessKind, recordAt, rulesOf, wholeRecords}
+use Rattle.policy.specs.Types.{checkedOf}
+use Rattle.records.specs.Types.{recordOf}
 use Rattle.policy.specs.WrittenForm.{AllKept, BodyKept, HeadKept, KindKept, Lengths, LevelsKept, PolicyRefused, RecordKept, Refusal, WellFormed, at}
 use Rattle.policy.specs.declared.Checked.{Checked}
-use Rattle.policy.specs.declared.record.Record as program
+use Rattle.records.specs.declared.Record as program
 
 -- What the policy's test answers, o. Demand 1: "Every policy of the written form is accepted", and "All else is refused with its number from document 01".
 pub record Tested (bytes : List ℕ) (o : Option Refusal) : Type 0 where

@@ -8,8 +8,8 @@ use lib.ListN.{length}
 use Rattle.atoms.specs.Atoms.{firstDerived, lastCredential, violation}
 use Rattle.atoms.specs.Sets.{Member}
 use Rattle.rules.specs.Rules.{Levelled, Rule}
-use Rattle.policy.specs.Levels.{level}
-use Rattle.policy.specs.Records.{Record, accessKind, disclosureKind, recordAt, wholeRecords}
+use Rattle.records.specs.Levels.{level}
+use Rattle.records.specs.Records.{Record, accessKind, disclosureKind, recordAt, wholeRecords}
 
 -- ---- statements, each beside what is given where it does not hold
 

@@ -1,18 +1,18 @@
 // The form of one record: refusals 3 to 6.
 ghost use mathlib.Core.Path.{_≡_};
-ghost use Rattle.policy.specs.PolicyTest.{accessBody, accessHead, accessLevels, disclosureBody, disclosureHead, recordRefusal};
-ghost use Rattle.policy.specs.Records.{accessKind, disclosureKind};
-ghost use Rattle.policy.specs.Types.{checkedOf, recordOf};
+ghost use Rattle.policy.specs.PolicyTest.{accessBody, accessHead, disclosureBody, disclosureHead, recordRefusal};
+ghost use Rattle.policy.specs.Types.{checkedOf};
+ghost use Rattle.records.specs.Records.{accessKind, disclosureKind};
+ghost use Rattle.records.specs.Types.{recordOf};
 use crate::Checked;
-use crate::level::atoms_below;
-use crate::level::level;
-use crate::record::ACCESS;
-use crate::record::DISCLOSURE;
-use crate::record::Record;
+use crate::levels::access_levels;
 use crate::refusal::Refusal;
 use atoms::FIRST_DERIVED;
 use atoms::LAST_CREDENTIAL;
 use atoms::VIOLATION;
+use records::ACCESS;
+use records::DISCLOSURE;
+use records::Record;
 
 // The test of a record that stands at place k.
 pub(crate) fn check_record(parsed: Record, k: u8) -> Checked
@@ -67,16 +67,6 @@ fn access_body(parsed: Record) -> bool
     ensures { λ r. ⌜ r ≡ accessBody (recordOf parsed .rule) ⌝ }
 {
     !parsed.positive.contains(VIOLATION) && !parsed.negated.contains(VIOLATION)
-}
-
-// No positive atom above the head's level, every negated one below it.
-fn access_levels(parsed: Record) -> bool
-    ensures { λ r. ⌜ r ≡ accessLevels (recordOf parsed .rule) ⌝ }
-{
-    let head = level(parsed.head);
-    let up_to = atoms_below(head + 1);
-    let below = atoms_below(head);
-    parsed.positive.is_subset(up_to) && parsed.negated.is_subset(below)
 }
 
 // 0 to 15.

@@ -1,17 +1,16 @@
-// Policies: the record reader and the policy's test (document 01, "Atoms and records" and "Who can be turned back").
+// The policy's test (document 01, "Who can be turned back").
 ghost use mathlib.Core.Path.{_≡_};
 ghost use Prim.Native.Nat.{_*_, _+_, _<_, _≤_};
 ghost use lib.ListN.{length};
 ghost use Rattle.policy.specs.PolicyTest.{policyRefusal, recordRefusal, recordsRefusal};
-ghost use Rattle.policy.specs.Records.{recordAt};
 ghost use Rattle.policy.specs.Types.{checkedOf};
+ghost use Rattle.records.specs.Records.{recordAt};
 use form::check_record;
-use record::read_record;
+use records::read_record;
 use refusal::Refusal;
 
 mod form;
-pub mod level;
-pub mod record;
+mod levels;
 pub mod refusal;
 
 // What the policy's test answers.

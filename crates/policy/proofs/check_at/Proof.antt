@@ -3,8 +3,8 @@ use borrow.Author.Needs.{needs}
 use denote.Ref.{now}
 use mathlib.Core.Path.{_∙_, ap}
 use Rattle.policy.specs.PolicyTest.{recordRefusal}
-use Rattle.policy.specs.Records.{Record}
-use Rattle.policy.proofs.ReadLaws.{part-read}
+use Rattle.records.specs.Records.{Record}
+use Rattle.records.proofs.ReadLaws.{part-read}
 use Rattle.policy.proofs.check_at.Statement.{statement}
 use Rattle.policy.proofs.check_at.Tie as tie
 

@@ -2,7 +2,7 @@
 use borrow.Author.Needs.{needs}
 use borrow.Author.Tests.{not-false, not-true}
 use Rattle.policy.specs.PolicyTest.{firstFailed}
-use Rattle.policy.specs.Types.{recordOf}
+use Rattle.records.specs.Types.{recordOf}
 use Rattle.policy.proofs.KindLaws.{access-refusal}
 use Rattle.policy.proofs.form.check_access.Statement.{statement}
 use Rattle.policy.proofs.form.check_access.Tie as tie

@@ -2,7 +2,7 @@
 use borrow.Author.Needs.{needs}
 use borrow.Author.Tests.{not-false, not-true}
 use Rattle.policy.specs.PolicyTest.{firstFailed}
-use Rattle.policy.specs.Types.{recordOf}
+use Rattle.records.specs.Types.{recordOf}
 use Rattle.policy.proofs.KindLaws.{disclosure-refusal}
 use Rattle.policy.proofs.form.check_disclosure.Statement.{statement}
 use Rattle.policy.proofs.form.check_disclosure.Tie as tie

@@ -1,7 +1,7 @@
 -- `policy::form::check_record` meets its contract: a kind that is neither is refused 3. Assumes nothing.
 use borrow.Author.Needs.{needs}
 use mathlib.Core.Path.{sym}
-use Rattle.policy.specs.Types.{recordOf}
+use Rattle.records.specs.Types.{recordOf}
 use Rattle.policy.proofs.KindLaws.{other-refusal}
 use Rattle.policy.proofs.form.check_record.Statement.{statement}
 use Rattle.policy.proofs.form.check_record.Tie as tie

@@ -9,7 +9,7 @@ use native.Mathlib.Omega.{arith}
 use Rattle.atoms.specs.LittleEndian.{Bytes, littleEndian}
 use Rattle.atoms.proofs.ByteLaws.{bytes-drop, bytes-take, littleEndian-lt}
 use Rattle.rules.specs.Rules.{Every}
-use Rattle.policy.specs.Records.{Record, blank, readPart, readRecord, recordAt, recordsFrom}
+use Rattle.records.specs.Records.{Record, blank, readPart, readRecord, recordAt, recordsFrom}
 
 -- eight bytes are a 64-bit number
 word-lt : (n : ℕ) (bs : List ℕ) → Bytes bs → littleEndian (take 8 (drop n bs)) < 2 ^ 64

@@ -1,8 +1,8 @@
--- `policy::level::level` meets its contract. Assumes nothing.
+-- `records::level::level` meets its contract. Assumes nothing.
 use mathlib.Core.Path.{sym}
-use Rattle.policy.proofs.LevelLaws.{level-other, level-violation}
-use Rattle.policy.proofs.level.level.Statement.{statement}
-use Rattle.policy.proofs.level.level.Tie as tie
+use Rattle.records.proofs.LevelLaws.{level-other, level-violation}
+use Rattle.records.proofs.level.level.Statement.{statement}
+use Rattle.records.proofs.level.level.Tie as tie
 
 returns : tie.Need-returns
 returns c = sym (level-violation (c .before .args .atom) (c .if1 .taken))

@@ -1,4 +1,4 @@
--- `policy::level::atoms_below` meets its contract: the atoms on the levels below one are the lowest ones. Assumes nothing.
+-- `policy::levels::atoms_below` meets its contract: the atoms on the levels below one are the lowest ones. Assumes nothing.
 use borrow.Author.Needs.{needs}
 use lib.Pow.{pow-lt, pow-pos}
 use mathlib.Core.Logic.{inl, inr}
@@ -6,9 +6,9 @@ use mathlib.Core.Path.{_≡_, refl}
 use native.Mathlib.Nat.{mod-eq-of-lt, one-mul}
 use native.Mathlib.Omega.{arith}
 use Prim.Native.Nat.{_%_, _*_, _<_, _^_}
-use Rattle.policy.proofs.LevelLaws.{below-levels}
-use Rattle.policy.proofs.level.atoms_below.Statement.{statement}
-use Rattle.policy.proofs.level.atoms_below.Tie as tie
+use Rattle.policy.proofs.LevelSetLaws.{below-levels}
+use Rattle.policy.proofs.levels.atoms_below.Statement.{statement}
+use Rattle.policy.proofs.levels.atoms_below.Tie as tie
 
 -- the shift gives the power of two
 shifted : (c : tie.Then1) → 1 * 2 ^ (8 * c .before .args .bound) % 2 ^ 64 ≡ 2 ^ (8 * c .before .args .bound)

@@ -1,15 +1,15 @@
--- `policy::form::access_levels` meets its contract: the masks are the sets of the lower levels. Assumes nothing.
+-- `policy::levels::access_levels` meets its contract: the masks are the sets of the lower levels. Assumes nothing.
 use borrow.Author.Needs.{needs}
 use native.Mathlib.Omega.{arith}
 use mathlib.Core.Bool.{_&&_}
 use mathlib.Core.Path.{_≡_}
 use Rattle.atoms.specs.Sets.{subset}
 use Rattle.policy.specs.PolicyTest.{accessLevels}
-use Rattle.policy.specs.Types.{recordOf}
-use Rattle.policy.proofs.LevelLaws.{level-lt}
+use Rattle.records.specs.Types.{recordOf}
+use Rattle.records.proofs.LevelLaws.{level-lt}
 use Rattle.policy.proofs.RecordLaws.{levels-by-sets}
-use Rattle.policy.proofs.form.access_levels.Statement.{statement}
-use Rattle.policy.proofs.form.access_levels.Tie as tie
+use Rattle.policy.proofs.levels.access_levels.Statement.{statement}
+use Rattle.policy.proofs.levels.access_levels.Tie as tie
 
 level-requires : tie.Need-level-requires
 level-requires c κs = search needs

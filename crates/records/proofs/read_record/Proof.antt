@@ -1,12 +1,12 @@
--- `policy::record::read_record` meets its contract: each field is what its bytes say. Assumes nothing.
+-- `records::read_record` meets its contract: each field is what its bytes say. Assumes nothing.
 use borrow.Author.Needs.{needs}
 use borrow.Author.Tests.{le-leb, lt-leb}
 use denote.Ref.{now}
 use mathlib.Core.Path.{refl}
 use Rattle.atoms.proofs.ByteLaws.{word-is}
-use Rattle.policy.specs.Records.{readRecord}
-use Rattle.policy.proofs.record.read_record.Statement.{statement}
-use Rattle.policy.proofs.record.read_record.Tie as tie
+use Rattle.records.specs.Records.{readRecord}
+use Rattle.records.proofs.read_record.Statement.{statement}
+use Rattle.records.proofs.read_record.Tie as tie
 
 returns : tie.Need-returns
 returns c = (simp (lt-leb 18 _ (c .if1 .taken)), refl)

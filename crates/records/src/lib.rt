@@ -1,11 +1,13 @@
-// The record reader.
+// What a policy's bytes say: records and levels (document 01, "Atoms and records").
 ghost use mathlib.Core.Path.{_≡_};
 ghost use Prim.Native.Nat.{_+_, _<_, _≤_};
 ghost use lib.ListN.{length};
 ghost use Rattle.atoms.specs.LittleEndian.{wordAt};
-ghost use Rattle.policy.specs.Records.{readPart};
-ghost use Rattle.policy.specs.Types.{recordOf};
+ghost use Rattle.records.specs.Records.{readPart};
+ghost use Rattle.records.specs.Types.{recordOf};
 use atoms::AtomSet;
+
+pub mod level;
 
 pub const ACCESS: u8 = 1;
 
