@@ -1,11 +1,10 @@
 -- Numbers from their bytes. Assumes nothing.
-use mathlib.Core.Path.{_∙_, _≡_, ap, refl, sym}
+use mathlib.Core.Path.{_∙_, _≡_, refl}
 use mathlib.Core.List.{List, [], _∷_}
 use Prim.Native.Nat.{_*_, _+_, _<_, _^_, _≤_, suc, zero, ℕ}
 use lib.ListN.{drop, getD, length, take}
-use lib.Pow.{pow-mono}
 use lib.Seq.{drop-drop, getD-drop, take-nil}
-use native.Mathlib.Nat.{add-zero, le-of-suc-le-suc, lt-of-lt-of-le, not-suc-le-zero}
+use native.Mathlib.Nat.{add-zero, le-of-suc-le-suc, not-suc-le-zero}
 use native.Mathlib.Omega.{arith}
 use Rattle.atoms.specs.LittleEndian.{Bytes, littleEndian, wordAt}
 

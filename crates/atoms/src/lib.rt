@@ -1,6 +1,6 @@
 // Atoms and sets of atoms (document 01, "Atoms and records").
 ghost use mathlib.Core.Path.{_≡_};
-ghost use Rattle.atoms.specs.Sets.{difference, empty, intersection, member, single, size, subset, union};
+ghost use Rattle.atoms.specs.Sets.{difference, intersection, member, single, size, subset, union};
 
 // Atoms 0 to 15 are credentials, 16 to 62 derived.
 pub const LAST_CREDENTIAL: u8 = 15;
@@ -21,11 +21,11 @@ impl AtomSet {
     pub fn one(atom: u8) -> AtomSet
         ensures { λ r. ⌜ r .bits ≡ single atom ⌝ }
     {
-        if atom <= VIOLATION {
-            AtomSet { bits: 1u64 << atom }
-        } else {
-            AtomSet::EMPTY
+        if atom > VIOLATION {
+            return AtomSet::EMPTY;
         }
+        let bits = 1u64 << atom;
+        AtomSet { bits }
     }
 
     pub fn union(self, other: AtomSet) -> AtomSet
@@ -48,9 +48,8 @@ impl AtomSet {
     pub fn difference(self, other: AtomSet) -> AtomSet
         ensures { λ r. ⌜ r .bits ≡ difference (self .bits) (other .bits) ⌝ }
     {
-        AtomSet {
-            bits: self.bits - (self.bits & other.bits),
-        }
+        let bits = self.bits - (self.bits & other.bits);
+        AtomSet { bits }
     }
 
     pub fn is_subset(self, other: AtomSet) -> bool

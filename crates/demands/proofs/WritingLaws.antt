@@ -1,5 +1,5 @@
 -- What a record's writer writes is what its reader reads. Assumes nothing.
-use mathlib.Core.Path.{_≡_, refl}
+use mathlib.Core.Path.{_≡_}
 use Prim.Native.Nat.{_/_, _<_, _^_, suc, zero, ℕ}
 use native.Mathlib.Omega.{arith}
 use Rattle.atoms.specs.LittleEndian.{littleEndian}

@@ -1,9 +1,8 @@
 -- Document 01, "Marked for proof, and others": the marked cases, as the paper words them. Cases (a) to (e) and (j) join with the model and with rounds.
 -- Assumes nothing.
 use mathlib.Core.Path.{_≡_}
-use mathlib.Core.List.{List, [], _∷_}
+use mathlib.Core.List.{[], _∷_}
 use mathlib.Core.Option.{none, some}
-use Prim.Native.Nat.{ℕ}
 use Rattle.policy.specs.PolicyTest.{policyRefusal}
 use Rattle.policy.specs.WrittenForm.{at}
 use Rattle.demands.specs.Writing.{_if_not_}

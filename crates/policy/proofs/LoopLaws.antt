@@ -1,7 +1,7 @@
 -- What the loop over the records needs: one record at a time, and what is left. Assumes nothing.
-use mathlib.Core.Path.{_∙_, _≡_, ap, refl}
+use mathlib.Core.Path.{_∙_, _≡_, ap}
 use mathlib.Core.List.{List}
-use mathlib.Core.Option.{Option, none, orElse, some}
+use mathlib.Core.Option.{none, orElse, some}
 use Prim.Native.Nat.{_+_, _-_, _<_, _≤_, suc, ℕ}
 use native.Mathlib.Numerals.{add-one}
 use native.Mathlib.Omega.{arith}

@@ -1,6 +1,6 @@
 -- When each number is given. Assumes nothing.
-use mathlib.Core.Path.{_∙_, _≡_, ap, refl, subst, sym}
-use mathlib.Core.Logic.{_↔_, _⊎_, inl, inr}
+use mathlib.Core.Path.{_≡_, ap, refl, subst, sym}
+use mathlib.Core.Logic.{_↔_, inl, inr}
 use mathlib.Core.List.{List, [], _∷_}
 use mathlib.Core.Option.{Option, some}
 use Prim.Native.Nat.{_%_, _<_, _≤_, suc, zero, ℕ}
@@ -10,7 +10,7 @@ use native.Mathlib.Omega.{arith}
 use Rattle.rules.specs.Rules.{Every}
 use Rattle.records.specs.Records.{Record, recordAt, wholeRecords}
 use Rattle.policy.specs.Theorems.{FirstFault, Numbers, Tested}
-use Rattle.policy.specs.WrittenForm.{AllKept, FirstBroken, Form, Lengths, PolicyRefused, RecordRefused, Refusal, at}
+use Rattle.policy.specs.WrittenForm.{FirstBroken, Form, Lengths, PolicyRefused, Refusal, at}
 use Rattle.policy.proofs.RefusalLaws.{number-is, place-is}
 
 -- ---- lists of statements

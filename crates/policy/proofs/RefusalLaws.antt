@@ -1,5 +1,5 @@
 -- Demand 1, of the policy's test: it accepts exactly the written form, and gives the first refusal that applies. Assumes nothing.
-use mathlib.Core.Path.{_∙_, _≡_, ap, refl, subst, sym}
+use mathlib.Core.Path.{_≡_, ap, refl, subst, sym}
 use mathlib.Core.Logic.{_↔_, _⊎_, inl, inr}
 use mathlib.Core.List.{List}
 use mathlib.Core.Option.{Option·none-ne-some, none, some}

@@ -2,7 +2,6 @@
 use mathlib.Core.Path.{_≡_, ap, refl}
 use mathlib.Core.Bool.{cond}
 use mathlib.Core.Option.{Option, none, some}
-use Prim.Native.Nat.{ℕ}
 use lib.Dec.{eqb}
 use Rattle.atoms.proofs.TestLaws.{one-to-one}
 use Rattle.policy.specs.Types.{checkedOf, refusalOf}

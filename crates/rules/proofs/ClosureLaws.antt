@@ -148,12 +148,12 @@ module _ (on : Rule → ℕ → Bool) where
   -- the three laws of a closure
   pub closureBy-grows : (rs : List Rule) (C : ℕ) → Subset C (closureBy on rs C)
   unfolding closureBy
-  closureBy-grows rs C = times-grows (length rs) rs C
+  closureBy-grows rs C = times-grows _ rs C
 
   pub closureBy-kept : (rs : List Rule) → Every Headed rs → (C : ℕ) → KeptBy (closureBy on rs C) rs
   unfolding closureBy
-  closureBy-kept rs h C = times-kept (length rs) rs h C (lacking-most rs C)
+  closureBy-kept rs h C = times-kept _ rs h C (lacking-most rs C)
 
   pub closureBy-within : (Q : ℕ → Type 0) (rs : List Rule) (C : ℕ) → ((k : ℕ) → Member k C → Q k) → Every (Keeps Q) rs → (k : ℕ) → Member k (closureBy on rs C) → Q k
   unfolding closureBy
-  closureBy-within Q rs C = times-within Q (length rs) rs C
+  closureBy-within Q rs C = times-within Q _ rs C

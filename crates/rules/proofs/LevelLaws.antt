@@ -3,7 +3,7 @@
 use mathlib.Core.Path.{_≡_, subst}
 use mathlib.Core.Logic.{_⊎_, inl, inr}
 use mathlib.Core.List.{List}
-use Prim.Native.Nat.{_+_, _-_, _<_, _^_, _≤_, min, suc, zero, ℕ}
+use Prim.Native.Nat.{_+_, _-_, _<_, _≤_, min, suc, zero, ℕ}
 use native.Mathlib.Nat.{eq-or-lt-of-le, le-of-suc-le-suc, not-suc-le-zero}
 use native.Mathlib.Omega.{arith}
 use Rattle.atoms.proofs.SetLaws.{member-low}
@@ -11,7 +11,7 @@ use Rattle.rules.specs.Model.{model}
 use Rattle.rules.specs.Rules.{Every, Rule, Stratified}
 use Rattle.rules.specs.Stable.{OneStable}
 use Rattle.rules.proofs.ListLaws.{every-imp}
-use Rattle.rules.proofs.ModelLaws.{Ranked, one-stable}
+use Rattle.rules.proofs.StratifiedLaws.{Ranked, one-stable}
 
 module _ (lev : ℕ → ℕ) where
   -- how many of the atoms below n are on a level below l

@@ -1,6 +1,7 @@
 -- The laws of passes, closures and models.
 pub mod ListLaws
 pub mod ClosureLaws
-pub mod ModelLaws
+pub mod LeastLaws
+pub mod StratifiedLaws
 pub mod LevelLaws
 pub mod TheoremsProof

@@ -4,11 +4,11 @@ use lib.Bits.{and-le-l}
 use Rattle.atoms.proofs.AtomSet.difference.Statement.{statement}
 use Rattle.atoms.proofs.AtomSet.difference.Tie as tie
 
-sub-t4 : tie.Need-sub-t4
-sub-t4 c = and-le-l (c .before .before .before .args .self .bits) (c .before .before .before .args .other .bits)
+sub-bits : tie.Need-sub-bits
+sub-bits c = and-le-l (c .before .before .before .args .self .bits) (c .before .before .before .args .other .bits)
 
 returns : tie.Need-returns
 returns c = search needs
 
 pub difference-spec : {M : Type 1} → statement M
-difference-spec = tie.close (tie.spec sub-t4 returns)
+difference-spec = tie.close (tie.spec sub-bits returns)

@@ -9,17 +9,17 @@ use Rattle.atoms.proofs.SetLaws.{single-is}
 use Rattle.atoms.proofs.AtomSet.one.Statement.{statement}
 use Rattle.atoms.proofs.AtomSet.one.Tie as tie
 
-below : (c : tie.Then1) → c .before .args .atom < 64
+below : (c : tie.Else1) → c .before .args .atom < 64
 below c = omega arith
 
-shl-t5 : tie.Need-shl-t5
-shl-t5 c = search needs
-
 returns : tie.Need-returns
-returns c = simp (one-mul, mod-eq-of-lt (pow-lt (below c)), single-is _ (c .if1 .taken))
+returns c = simp (lt-leb _ 63 (c .if1 .taken))
+
+shl-bits : tie.Need-shl-bits
+shl-bits c = search needs
 
 returns-2 : tie.Need-returns-2
-returns-2 c = simp (lt-leb _ 63 (c .if1 .left))
+returns-2 c = simp (one-mul, mod-eq-of-lt (pow-lt (below c)), single-is _ (c .if1 .left))
 
 pub one-spec : {M : Type 1} → statement M
-one-spec = tie.close (tie.spec shl-t5 returns returns-2)
+one-spec = tie.close (tie.spec returns shl-bits returns-2)

@@ -2,7 +2,6 @@
 use borrow.Author.Needs.{needs}
 use lib.ListN.{length, length-set}
 use mathlib.Core.Path.{_≡_}
-use native.Mathlib.Omega.{arith}
 use Prim.Native.Nat.{_-_, _≤_}
 use Rattle.cases.proofs.write.always_16.Statement.{statement}
 use Rattle.cases.proofs.write.always_16.Tie as tie
