@@ -62,9 +62,13 @@ unfoldable pub firstFailed : {A : Type 0} → List (Bool × A) → Option A
 firstFailed [] = none
 firstFailed (t ∷ ts) = cond (t .0) (firstFailed ts) (some (t .1))
 
+-- the same, as a refusal at record k
+abbrev pub failedAt : ℕ → List (Bool × ℕ) → Option Refusal
+failedAt k ts = Option·map (λ n. at n k) (firstFailed ts)
+
 -- the refusal of record k, which says d
 unfoldable pub recordRefusal : Record → ℕ → Option Refusal
-recordRefusal d k = Option·map (λ n. at n k) (firstFailed (tests d))
+recordRefusal d k = failedAt k (tests d)
 
 -- "records are tested in turn": the first refusal of record k and those after it, n in all
 unfoldable pub recordsRefusal : List ℕ → ℕ → ℕ → Option Refusal

@@ -1,8 +1,8 @@
 // The form of one record: refusals 3 to 6.
+ghost use mathlib.Core.List.{[], _∷_};
 ghost use mathlib.Core.Path.{_≡_};
-ghost use Rattle.policy.specs.PolicyTest.{accessBody, accessHead, disclosureBody, disclosureHead, recordRefusal};
+ghost use Rattle.policy.specs.PolicyTest.{accessBody, accessHead, disclosureBody, disclosureHead, failedAt, recordRefusal};
 ghost use Rattle.policy.specs.Types.{checkedOf};
-ghost use Rattle.records.specs.Records.{accessKind, disclosureKind};
 ghost use Rattle.records.specs.Types.{recordOf};
 use crate::Checked;
 use crate::levels::access_levels;
@@ -20,37 +20,29 @@ pub(crate) fn check_record(parsed: Record, k: u8) -> Checked
 {
     let kind = parsed.kind;
     match kind {
-        ACCESS => check_access(parsed, k),
-        DISCLOSURE => check_disclosure(parsed, k),
+        ACCESS => first_failed(
+            access_head(parsed),
+            access_body(parsed),
+            access_levels(parsed),
+            k,
+        ),
+        DISCLOSURE => first_failed(disclosure_head(parsed), disclosure_body(parsed), true, k),
         _ => Checked::Refused(Refusal::Kind(k)),
     }
 }
 
-fn check_access(parsed: Record, k: u8) -> Checked
-    requires { ⌜ parsed .kind ≡ accessKind ⌝ }
-    ensures { λ r. ⌜ checkedOf r ≡ recordRefusal (recordOf parsed) k ⌝ }
+// The refusal of the first test that fails, at record k.
+fn first_failed(head: bool, body: bool, levels: bool, k: u8) -> Checked
+    ensures { λ r. ⌜ checkedOf r ≡ failedAt k ((head, 4) ∷ (body, 5) ∷ (levels, 6) ∷ []) ⌝ }
 {
-    if !access_head(parsed) {
+    if !head {
         return Checked::Refused(Refusal::Head(k));
     }
-    if !access_body(parsed) {
+    if !body {
         return Checked::Refused(Refusal::Body(k));
     }
-    if !access_levels(parsed) {
+    if !levels {
         return Checked::Refused(Refusal::Level(k));
-    }
-    Checked::Accepted
-}
-
-fn check_disclosure(parsed: Record, k: u8) -> Checked
-    requires { ⌜ parsed .kind ≡ disclosureKind ⌝ }
-    ensures { λ r. ⌜ checkedOf r ≡ recordRefusal (recordOf parsed) k ⌝ }
-{
-    if !disclosure_head(parsed) {
-        return Checked::Refused(Refusal::Head(k));
-    }
-    if !disclosure_body(parsed) {
-        return Checked::Refused(Refusal::Body(k));
     }
     Checked::Accepted
 }
