@@ -4,9 +4,16 @@ use mathlib.Core.List.{List, [], _∷_}
 use Prim.Native.Nat.{_*_, _+_, _<_, _^_, _≤_, suc, zero, ℕ}
 use lib.ListN.{drop, getD, length, take}
 use lib.Seq.{drop-drop, getD-drop, take-nil}
+use mir.Syntax.{w8}
+use mir.Val.{Fits}
 use native.Mathlib.Nat.{add-zero, le-of-suc-le-suc, not-suc-le-zero}
 use native.Mathlib.Omega.{arith}
 use Rattle.atoms.specs.LittleEndian.{Bytes, littleEndian, wordAt}
+
+-- what the checker knows of a slice of bytes: each element is one
+pub slice-bytes : (bs : List ℕ) → ((i : ℕ) → Fits w8 (getD bs i 0)) → Bytes bs
+slice-bytes [] g = tt
+slice-bytes (b ∷ bs) g = (g 0 .fits, slice-bytes bs (λ i. g (suc i)))
 
 pub bytes-take : (n : ℕ) (bs : List ℕ) → Bytes bs → Bytes (take n bs)
 bytes-take zero bs h = tt

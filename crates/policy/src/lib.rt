@@ -3,6 +3,7 @@ ghost use mathlib.Core.Path.{_≡_};
 ghost use Prim.Native.Nat.{_*_, _+_, _<_, _≤_};
 ghost use lib.ListN.{length};
 ghost use Rattle.policy.specs.PolicyTest.{policyRefusal, recordRefusal, recordsRefusal};
+ghost use Rattle.policy.specs.Theorems.{Tested};
 ghost use Rattle.policy.specs.Types.{checkedOf};
 ghost use Rattle.records.specs.Records.{recordAt};
 use form::check_record;
@@ -22,6 +23,7 @@ pub enum Checked {
 // The policy's test: accepted, or the first refusal that applies.
 pub fn check(policy: &[u8]) -> Checked
     ensures answer { λ r. ⌜ checkedOf r ≡ policyRefusal (now (policy .entry)) ⌝ }
+    ensures meaning { λ r. ⌜ Tested (now (policy .entry)) (checkedOf r) ⌝ }
     ensures unchanged { λ _. ⌜ now (policy .exit) ≡ now (policy .entry) ⌝ }
 {
     let bytes = policy.len();
