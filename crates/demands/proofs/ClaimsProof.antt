@@ -1,10 +1,10 @@
 -- Every theorem of specs/Claims. Assumes nothing.
 use Rattle.atoms.proofs.MeaningProof.{meaning}
 use Rattle.rules.proofs.TheoremsProof as rules
+use Rattle.records.proofs.TheoremsProof as records
 use Rattle.policy.proofs.TheoremsProof as policy
 use Rattle.demands.specs.Claims.{Claims}
 use Rattle.demands.proofs.MarkedCases.{marked}
-use Rattle.demands.proofs.WritingLaws.{written}
 
 pub claims : Claims
-claims = record { sets = meaning; written = written; models = rules.theorems; policies = policy.theorems; marked = marked }
+claims = record { sets = meaning; models = rules.theorems; encoding = records.theorems; policies = policy.theorems; marked = marked }

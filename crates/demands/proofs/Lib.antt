@@ -1,4 +1,3 @@
 -- The proofs of the claims.
-pub mod WritingLaws
 pub mod MarkedCases
 pub mod ClaimsProof

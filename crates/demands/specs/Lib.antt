@@ -1,4 +1,3 @@
--- What the customer reads: records as their writer writes them, the marked cases, and every theorem on one page.
-pub mod Writing
+-- What the customer reads: the marked cases, and every theorem on one page.
 pub mod Marked
 pub mod Claims

@@ -3,9 +3,9 @@
 use mathlib.Core.Path.{_≡_}
 use mathlib.Core.List.{[], _∷_}
 use mathlib.Core.Option.{none, some}
+use Rattle.records.specs.Writing.{_if_not_}
 use Rattle.policy.specs.PolicyTest.{policyRefusal}
 use Rattle.policy.specs.WrittenForm.{at}
-use Rattle.demands.specs.Writing.{_if_not_}
 
 pub record Marked : Type 0 where
   -- "Example, "16 if 2 and not 3": hexadecimal 01 10 04, seven zeros, 08, seven zeros."

@@ -5,8 +5,8 @@ use mathlib.Core.Option.{none, orElse, some}
 use Prim.Native.Nat.{_+_, _-_, _<_, _≤_, suc, ℕ}
 use native.Mathlib.Numerals.{add-one}
 use native.Mathlib.Omega.{arith}
-use Rattle.policy.specs.PolicyTest.{recordRefusal, recordsRefusal}
 use Rattle.records.specs.Records.{recordAt}
+use Rattle.policy.specs.PolicyTest.{recordRefusal, recordsRefusal}
 use Rattle.policy.specs.WrittenForm.{Refusal}
 
 module _ (bytes : List ℕ) (k n : ℕ) where

@@ -13,11 +13,11 @@ use Rattle.atoms.proofs.SizeLaws.{low-lt}
 use Rattle.atoms.proofs.TestLaws.{and-true, both-true, eqb-true, true-eqb}
 use Rattle.rules.specs.Rules.{Levelled, Rule}
 use Rattle.records.specs.Levels.{level}
-use Rattle.policy.specs.PolicyTest.{accessBody, accessHead, accessLevels, byKind, disclosureBody, disclosureHead, forAtoms, tests}
 use Rattle.records.specs.Records.{Record, accessKind, disclosureKind}
+use Rattle.records.specs.Theorems.{Sized}
+use Rattle.policy.specs.PolicyTest.{accessBody, accessHead, accessLevels, byKind, disclosureBody, disclosureHead, forAtoms, tests}
 use Rattle.policy.specs.WrittenForm.{AccessBody, DisclosureBody, Form}
 use Rattle.policy.proofs.DecideLaws.{DecideAll, Decides, decides-and, decides-eq, decides-le, decides-lt, decides-not, decides-or, same-decision}
-use Rattle.records.proofs.ReadLaws.{Sized}
 
 -- ---- a test for every atom of a set
 

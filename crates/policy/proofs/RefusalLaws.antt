@@ -8,12 +8,12 @@ use lib.ListN.{length}
 use native.Mathlib.Nat.{eq-or-lt-of-le}
 use native.Mathlib.Omega.{arith}
 use Rattle.atoms.specs.LittleEndian.{Bytes}
-use Rattle.policy.specs.PolicyTest.{firstFailed, lengthTests, policyRefusal, recordRefusal, recordsRefusal, tests}
 use Rattle.records.specs.Records.{recordAt, wholeRecords}
+use Rattle.records.proofs.ReadLaws.{record-sized}
+use Rattle.policy.specs.PolicyTest.{firstFailed, lengthTests, policyRefusal, recordRefusal, recordsRefusal, tests}
 use Rattle.policy.specs.Theorems.{Tested}
 use Rattle.policy.specs.WrittenForm.{FirstBroken, Form, Lengths, PolicyRefused, RecordKept, RecordRefused, Refusal, at}
 use Rattle.policy.proofs.DecideLaws.{DecideAll, decides-eq, decides-le, first-none, first-some, map-none, map-some, then-none, then-some}
-use Rattle.records.proofs.ReadLaws.{record-sized}
 use Rattle.policy.proofs.RecordLaws.{decide-record}
 
 pub number-is : {n k m j : ℕ} → at n k ≡ at m j → n ≡ m

@@ -5,13 +5,12 @@ use Rattle.policy.proofs.NumberLaws.{numbers}
 use Rattle.policy.proofs.PolicyLaws.{one-model, stratified}
 use Rattle.policy.proofs.RefusalLaws.{tested}
 use Rattle.policy.proofs.TypeLaws.{checked-one}
-use Rattle.records.proofs.TypeLaws.{record-one}
 
 pub theorems : Theorems
 theorems = record {
   tested = tested;
   numbers = λ bytes b. numbers bytes (policyRefusal bytes) (tested bytes b);
-  one-to-one = record { checked = checked-one; records = record-one };
+  one-to-one = checked-one;
   stratified = stratified;
   models = one-model;
 }

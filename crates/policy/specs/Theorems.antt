@@ -10,13 +10,11 @@ use Rattle.rules.specs.Model.{model}
 use Rattle.rules.specs.Rules.{Every, Stratified}
 use Rattle.rules.specs.Stable.{OneStable}
 use Rattle.records.specs.Levels.{level}
-use Rattle.policy.specs.PolicyTest.{policyRefusal}
 use Rattle.records.specs.Records.{Record, accessKind, recordAt, rulesOf, wholeRecords}
+use Rattle.policy.specs.PolicyTest.{policyRefusal}
 use Rattle.policy.specs.Types.{checkedOf}
-use Rattle.records.specs.Types.{recordOf}
 use Rattle.policy.specs.WrittenForm.{AllKept, BodyKept, HeadKept, KindKept, Lengths, LevelsKept, PolicyRefused, RecordKept, Refusal, WellFormed, at}
 use Rattle.policy.specs.declared.Checked.{Checked}
-use Rattle.records.specs.declared.Record as program
 
 -- What the policy's test answers, o. Demand 1: "Every policy of the written form is accepted", and "All else is refused with its number from document 01".
 pub record Tested (bytes : List ℕ) (o : Option Refusal) : Type 0 where
@@ -47,15 +45,11 @@ pub record Numbers (bytes : List ℕ) (o : Option Refusal) : Type 0 where
   -- "The policy's test gives only 1 to 6"
   pub only : (n k : ℕ) → o ≡ some (at n k) → (1 ≤ n) × (n ≤ 6)
 
--- What the program's types mean is one-to-one, so that a contract through these maps fixes the answer.
-pub record OneToOne : Type 0 where
-  pub checked : (x y : Checked) → checkedOf x ≡ checkedOf y → x ≡ y
-  pub records : (x y : program.Record) → recordOf x ≡ recordOf y → x ≡ y
-
 pub record Theorems : Type 0 where
   pub tested : (bytes : List ℕ) → Bytes bytes → Tested bytes (policyRefusal bytes)
   pub numbers : (bytes : List ℕ) → Bytes bytes → Numbers bytes (policyRefusal bytes)
-  pub one-to-one : OneToOne
+  -- what the program's answer means is one-to-one, so that a contract through this map fixes the answer
+  pub one-to-one : (x y : Checked) → checkedOf x ≡ checkedOf y → x ≡ y
   -- an accepted policy's access rules keep the levels
   pub stratified : (bytes : List ℕ) → Bytes bytes → WellFormed bytes → Every (Stratified level) (rulesOf accessKind bytes)
   -- "For every accepted policy and every C just one stable set exists; that is the model."

@@ -1,9 +1,9 @@
 // The form of one record: refusals 3 to 6.
-ghost use mathlib.Core.List.{[], _∷_};
 ghost use mathlib.Core.Path.{_≡_};
+ghost use mathlib.Core.List.{[], _∷_};
+ghost use Rattle.records.specs.Types.{recordOf};
 ghost use Rattle.policy.specs.PolicyTest.{accessBody, accessHead, disclosureBody, disclosureHead, failedAt, recordRefusal};
 ghost use Rattle.policy.specs.Types.{checkedOf};
-ghost use Rattle.records.specs.Types.{recordOf};
 use crate::Checked;
 use crate::levels::access_levels;
 use crate::refusal::Refusal;

@@ -2,10 +2,10 @@
 ghost use mathlib.Core.Path.{_≡_};
 ghost use Prim.Native.Nat.{_*_, _+_, _<_, _≤_};
 ghost use lib.ListN.{length};
+ghost use Rattle.records.specs.Records.{recordAt};
 ghost use Rattle.policy.specs.PolicyTest.{policyRefusal, recordRefusal, recordsRefusal};
 ghost use Rattle.policy.specs.Theorems.{Tested};
 ghost use Rattle.policy.specs.Types.{checkedOf};
-ghost use Rattle.records.specs.Records.{recordAt};
 use form::check_record;
 use records::read_record;
 use refusal::Refusal;

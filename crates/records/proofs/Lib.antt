@@ -1,4 +1,7 @@
--- The laws of records, levels and what the program's record means.
+-- The laws of records, of levels, of rules and of what is written.
 pub mod ReadLaws
 pub mod LevelLaws
+pub mod RuleLaws
+pub mod WritingLaws
 pub mod TypeLaws
+pub mod TheoremsProof

@@ -2,25 +2,21 @@
 use mathlib.Core.Path.{_≡_, ap}
 use mathlib.Core.Bool.{Bool, cond}
 use mathlib.Core.List.{List}
-use Prim.Native.Nat.{_*_, _+_, _-_, _<_, _^_, _≤_, suc, zero, ℕ}
+use Prim.Native.Nat.{_*_, _+_, _-_, _<_, _^_, _≤_, ℕ}
 use lib.ListN.{drop, length, length-drop, length-take, take}
 use borrow.Author.Tests.{le-leb}
 use native.Mathlib.Omega.{arith}
 use Rattle.atoms.specs.LittleEndian.{Bytes, littleEndian}
 use Rattle.atoms.proofs.ByteLaws.{bytes-drop, bytes-take, littleEndian-lt}
-use Rattle.rules.specs.Rules.{Every}
-use Rattle.records.specs.Records.{Record, blank, readPart, readRecord, recordAt, recordsFrom}
+use Rattle.records.specs.Records.{blank, readPart, readRecord, recordAt}
+use Rattle.records.specs.Theorems.{Sized}
 
 -- eight bytes are a 64-bit number
 word-lt : (n : ℕ) (bs : List ℕ) → Bytes bs → littleEndian (take 8 (drop n bs)) < 2 ^ 64
 word-lt n bs h =
     littleEndian-lt 8 (take 8 (drop n bs)) (bytes-take 8 (drop n bs) (bytes-drop n bs h)) (simp (length-take {A = ℕ}) (omega arith))
 
--- the sets of a record are sets of atoms
-pub record Sized (d : Record) : Type 0 where
-  pub positive : d .rule .positive < 2 ^ 64
-  pub negated : d .rule .negated < 2 ^ 64
-
+-- so the sets of a record are sets of atoms
 pub record-sized : (bytes : List ℕ) → Bytes bytes → (k : ℕ) → Sized (recordAt bytes k)
 unfolding readRecord
 record-sized bytes h k = record { positive = word-lt 2 part inside; negated = word-lt 10 part inside }
@@ -39,11 +35,3 @@ part-read bytes k l =
   where
     fits : 18 ≤ length (take 18 (drop (18 * k) bytes))
     fits = simp (length-take {A = ℕ}, length-drop {A = ℕ}) (omega arith)
-
--- what holds of the record at each place holds of every record
-pub every-record : (P : Record → Type 0) (bytes : List ℕ) (k n : ℕ) → ((j : ℕ) → k ≤ j → j < k + n → P (recordAt bytes j))
-    → Every P (recordsFrom bytes k n)
-unfolding recordsFrom
-every-record P bytes k zero f = tt
-every-record P bytes k (suc n) f =
-    (f k (omega arith) (omega arith), every-record P bytes (suc k) n (λ j l m. f j (omega arith) (omega arith)))

@@ -2,3 +2,5 @@
 pub mod Records
 pub mod Levels
 pub mod Types
+pub mod Writing
+pub mod Theorems

@@ -53,6 +53,10 @@ unfoldable pub recordsFrom : List ℕ → ℕ → ℕ → List Record
 recordsFrom bytes k zero = []
 recordsFrom bytes k (suc n) = recordAt bytes k ∷ recordsFrom bytes (suc k) n
 
+-- all whole records, in order
+unfoldable pub recordsOf : List ℕ → List Record
+recordsOf bytes = recordsFrom bytes 0 (wholeRecords bytes)
+
 -- the rules of the records of one kind, in order
 unfoldable pub ofKind : ℕ → List Record → List Rule
 ofKind k [] = []
@@ -60,4 +64,4 @@ ofKind k (d ∷ ds) = cond (eqb (d .kind) k) (d .rule ∷ ofKind k ds) (ofKind k
 
 -- a policy's rules of one kind: `rulesOf accessKind` are its access rules
 unfoldable pub rulesOf : ℕ → List ℕ → List Rule
-rulesOf k bytes = ofKind k (recordsFrom bytes 0 (wholeRecords bytes))
+rulesOf k bytes = ofKind k (recordsOf bytes)

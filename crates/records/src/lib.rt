@@ -53,20 +53,14 @@ fn word(bytes: &[u8], at: usize) -> u64
     requires { ⌜ at + 8 ≤ length (now bytes) ⌝ }
     ensures { λ r. ⌜ r ≡ wordAt (now (bytes .entry)) at ⌝ }
 {
-    wide(bytes[at])
-        + 256
-            * (wide(bytes[at + 1])
-                + 256
-                    * (wide(bytes[at + 2])
-                        + 256
-                            * (wide(bytes[at + 3])
-                                + 256
-                                    * (wide(bytes[at + 4])
-                                        + 256
-                                            * (wide(bytes[at + 5])
-                                                + 256
-                                                    * (wide(bytes[at + 6])
-                                                        + 256 * wide(bytes[at + 7])))))))
+    let mut number = wide(bytes[at + 7]);
+    number = wide(bytes[at + 6]) + 256 * number;
+    number = wide(bytes[at + 5]) + 256 * number;
+    number = wide(bytes[at + 4]) + 256 * number;
+    number = wide(bytes[at + 3]) + 256 * number;
+    number = wide(bytes[at + 2]) + 256 * number;
+    number = wide(bytes[at + 1]) + 256 * number;
+    wide(bytes[at]) + 256 * number
 }
 
 // A byte, widened.

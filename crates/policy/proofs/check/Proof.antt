@@ -1,11 +1,9 @@
 -- `policy::check` meets its contract: at each `return` the tests that led there say which refusal is the first. Assumes nothing.
+use mathlib.Core.Path.{_≡_, refl, subst, sym}
+use mathlib.Core.Option.{Option, orElse}
+use denote.Ref.{now}
 use borrow.Author.Needs.{needs}
 use borrow.Author.Tests.{eq-eqb, le-leb, lt-leb, ne-eqb}
-use denote.Ref.{now}
-use mathlib.Core.List.{List}
-use mathlib.Core.Option.{Option, orElse}
-use mathlib.Core.Path.{_≡_, refl, subst, sym}
-use Prim.Native.Nat.{ℕ}
 use Rattle.atoms.proofs.ByteLaws.{slice-bytes}
 use Rattle.policy.specs.PolicyTest.{firstFailed, policyRefusal}
 use Rattle.policy.specs.Theorems.{Tested}

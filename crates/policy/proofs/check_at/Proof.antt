@@ -1,10 +1,10 @@
 -- `policy::check_at` meets its contract: the part that is handed on is record k. Assumes nothing.
-use borrow.Author.Needs.{needs}
-use denote.Ref.{now}
 use mathlib.Core.Path.{_∙_, ap}
-use Rattle.policy.specs.PolicyTest.{recordRefusal}
+use denote.Ref.{now}
+use borrow.Author.Needs.{needs}
 use Rattle.records.specs.Records.{Record}
 use Rattle.records.proofs.ReadLaws.{part-read}
+use Rattle.policy.specs.PolicyTest.{recordRefusal}
 use Rattle.policy.proofs.check_at.Statement.{statement}
 use Rattle.policy.proofs.check_at.Tie as tie
 

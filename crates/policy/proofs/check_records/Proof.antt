@@ -1,10 +1,10 @@
 -- `policy::check_records` meets its contract. The loop's invariant: the first refusal of all records is that of those that are left. The measure is
 -- their number. Assumes nothing.
-use borrow.Author.Needs.{needs}
-use denote.Ref.{now}
 use mathlib.Core.Path.{_∙_, _≡_, ap, sym}
-use native.Mathlib.Omega.{arith}
 use Prim.Native.Nat.{_-_, _≤_}
+use denote.Ref.{now}
+use borrow.Author.Needs.{needs}
+use native.Mathlib.Omega.{arith}
 use Rattle.policy.specs.PolicyTest.{recordsRefusal}
 use Rattle.policy.specs.Types.{checkedOf}
 use Rattle.policy.proofs.LoopLaws.{records-done, records-kept, records-refused}

@@ -1,8 +1,8 @@
 -- `records::read_record` meets its contract: each field is what its bytes say. Assumes nothing.
+use mathlib.Core.Path.{refl}
+use denote.Ref.{now}
 use borrow.Author.Needs.{needs}
 use borrow.Author.Tests.{le-leb, lt-leb}
-use denote.Ref.{now}
-use mathlib.Core.Path.{refl}
 use Rattle.atoms.proofs.ByteLaws.{word-is}
 use Rattle.records.specs.Records.{readRecord}
 use Rattle.records.proofs.read_record.Statement.{statement}

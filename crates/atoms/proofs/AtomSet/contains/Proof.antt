@@ -1,8 +1,8 @@
 -- `atoms::AtomSet::contains` meets its contract: a 64-bit number has no bit above 63. Assumes nothing.
-use borrow.Author.Needs.{needs}
-use lib.Dec.{eqb}
 use mathlib.Core.Path.{ap, sym}
 use Prim.Native.Nat.{ℕ}
+use lib.Dec.{eqb}
+use borrow.Author.Needs.{needs}
 use native.Mathlib.Omega.{arith}
 use Rattle.atoms.proofs.SetLaws.{bit-high}
 use Rattle.atoms.proofs.AtomSet.contains.Statement.{statement}

@@ -1,6 +1,6 @@
 -- `atoms::AtomSet::difference` meets its contract: what two sets share is no larger than either. Assumes nothing.
-use borrow.Author.Needs.{needs}
 use lib.Bits.{and-le-l}
+use borrow.Author.Needs.{needs}
 use Rattle.atoms.proofs.AtomSet.difference.Statement.{statement}
 use Rattle.atoms.proofs.AtomSet.difference.Tie as tie
 

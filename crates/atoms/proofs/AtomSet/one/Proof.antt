@@ -1,8 +1,8 @@
 -- `atoms::AtomSet::one` meets its contract: up to 63 the shift gives the power of two. Assumes nothing.
+use Prim.Native.Nat.{_<_}
+use lib.Pow.{pow-lt}
 use borrow.Author.Needs.{needs}
 use borrow.Author.Tests.{lt-leb}
-use lib.Pow.{pow-lt}
-use Prim.Native.Nat.{_<_}
 use native.Mathlib.Nat.{mod-eq-of-lt, one-mul}
 use native.Mathlib.Omega.{arith}
 use Rattle.atoms.proofs.SetLaws.{single-is}

@@ -1,8 +1,8 @@
 -- `cases::write::always_16` is safe and ends. Assumes nothing.
-use borrow.Author.Needs.{needs}
-use lib.ListN.{length, length-set}
 use mathlib.Core.Path.{_≡_}
 use Prim.Native.Nat.{_-_, _≤_}
+use lib.ListN.{length, length-set}
+use borrow.Author.Needs.{needs}
 use Rattle.cases.proofs.write.always_16.Statement.{statement}
 use Rattle.cases.proofs.write.always_16.Tie as tie
 

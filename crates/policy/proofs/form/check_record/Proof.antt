@@ -1,6 +1,6 @@
 -- `policy::form::check_record` meets its contract: each kind takes its own tests. Assumes nothing.
-use borrow.Author.Needs.{needs}
 use mathlib.Core.Path.{sym}
+use borrow.Author.Needs.{needs}
 use Rattle.records.specs.Types.{recordOf}
 use Rattle.policy.proofs.KindLaws.{access-refusal, disclosure-refusal, other-refusal}
 use Rattle.policy.proofs.form.check_record.Statement.{statement}

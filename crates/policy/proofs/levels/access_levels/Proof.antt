@@ -1,12 +1,12 @@
 -- `policy::levels::access_levels` meets its contract: the masks are the sets of the lower levels. Assumes nothing.
+use mathlib.Core.Path.{_≡_}
+use mathlib.Core.Bool.{_&&_}
 use borrow.Author.Needs.{needs}
 use native.Mathlib.Omega.{arith}
-use mathlib.Core.Bool.{_&&_}
-use mathlib.Core.Path.{_≡_}
 use Rattle.atoms.specs.Sets.{subset}
-use Rattle.policy.specs.PolicyTest.{accessLevels}
 use Rattle.records.specs.Types.{recordOf}
 use Rattle.records.proofs.LevelLaws.{level-lt}
+use Rattle.policy.specs.PolicyTest.{accessLevels}
 use Rattle.policy.proofs.RecordLaws.{levels-by-sets}
 use Rattle.policy.proofs.levels.access_levels.Statement.{statement}
 use Rattle.policy.proofs.levels.access_levels.Tie as tie

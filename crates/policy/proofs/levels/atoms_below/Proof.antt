@@ -1,11 +1,11 @@
 -- `policy::levels::atoms_below` meets its contract: the atoms on the levels below one are the lowest ones. Assumes nothing.
-use borrow.Author.Needs.{needs}
-use lib.Pow.{pow-lt, pow-pos}
-use mathlib.Core.Logic.{inl, inr}
 use mathlib.Core.Path.{_≡_, refl}
+use mathlib.Core.Logic.{inl, inr}
+use Prim.Native.Nat.{_%_, _*_, _<_, _^_}
+use lib.Pow.{pow-lt, pow-pos}
+use borrow.Author.Needs.{needs}
 use native.Mathlib.Nat.{mod-eq-of-lt, one-mul}
 use native.Mathlib.Omega.{arith}
-use Prim.Native.Nat.{_%_, _*_, _<_, _^_}
 use Rattle.policy.proofs.LevelSetLaws.{below-levels}
 use Rattle.policy.proofs.levels.atoms_below.Statement.{statement}
 use Rattle.policy.proofs.levels.atoms_below.Tie as tie
