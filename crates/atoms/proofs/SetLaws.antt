@@ -62,11 +62,11 @@ bit-difference a b (suc k) =
 half-power : (h : ℕ) → 2 ^ suc h / 2 ≡ 2 ^ h
 half-power h = omega arith
 
-pub bit-one : (h : ℕ) → bit (2 ^ h) h ≡ 1
+bit-one : (h : ℕ) → bit (2 ^ h) h ≡ 1
 bit-one zero = refl
 bit-one (suc h) = bit-next (2 ^ suc h) h ∙ ap (λ (x : ℕ). bit x h) (half-power h) ∙ bit-one h
 
-pub bit-other : (h k : ℕ) → h ≢ k → bit (2 ^ h) k ≡ 0
+bit-other : (h k : ℕ) → h ≢ k → bit (2 ^ h) k ≡ 0
 bit-other zero zero n = absurd (n refl)
 bit-other zero (suc k) n = bit-next 1 k ∙ bit-empty k
 bit-other (suc h) zero n = bit-first (2 ^ suc h) ∙ omega arith

@@ -42,7 +42,7 @@ unfolding size
 size-le a b f = onesIn-le 64 a b f
 
 -- b has an atom more than a
-pub size-lt : (a b k : ℕ) → k < 64 → Subset a b → Member k b → bit a k ≡ 0 → size a < size b
+size-lt : (a b k : ℕ) → k < 64 → Subset a b → Member k b → bit a k ≡ 0 → size a < size b
 unfolding size
 size-lt a b k l f m z = onesIn-lt 64 a b k l f m z
 

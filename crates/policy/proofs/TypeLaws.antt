@@ -3,7 +3,7 @@ use mathlib.Core.Path.{_≡_, ap, refl}
 use mathlib.Core.Bool.{cond}
 use mathlib.Core.Option.{Option, none, some}
 use lib.Dec.{eqb}
-use Rattle.atoms.proofs.TestLaws.{one-to-one}
+use Rattle.atoms.proofs.MapLaws.{one-to-one}
 use Rattle.policy.specs.Types.{checkedOf, refusalOf}
 use Rattle.policy.specs.WrittenForm as W
 use Rattle.policy.specs.declared.Checked.{Checked}

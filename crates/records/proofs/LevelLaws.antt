@@ -2,7 +2,7 @@
 use mathlib.Core.Path.{_≡_, ap}
 use mathlib.Core.Logic.{_⊎_, inl, inr}
 use mathlib.Core.Bool.{Bool, cond}
-use Prim.Native.Nat.{_/_, _<_, ℕ}
+use Prim.Native.Nat.{_*_, _+_, _/_, _<_, _≤_, ℕ}
 use borrow.Author.Tests.{eq-eqb, ne-eqb}
 use native.Mathlib.Decide.{ℕ-discrete}
 use native.Mathlib.Omega.{arith}
@@ -28,3 +28,6 @@ level-lt a l = go (level-cases a)
     go : ((a ≡ violation) × (level a ≡ 8)) ⊎ ((a ≡ violation → ⊥) × (level a ≡ a / 8)) → level a < 32
     go (inl (_, e)) = omega arith
     go (inr (_, e)) = omega arith
+
+pub level-down : (a : ℕ) → a < violation → (8 * level a ≤ a) × (a < 8 * level a + 8)
+level-down a l = let e : level a ≡ a / 8 = level-other a (λ i. omega arith) in (omega arith, omega arith)

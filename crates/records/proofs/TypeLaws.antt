@@ -1,6 +1,6 @@
 -- What the program's record means is one-to-one: the map has a way back. Assumes nothing.
 use mathlib.Core.Path.{_≡_, refl}
-use Rattle.atoms.proofs.TestLaws.{one-to-one}
+use Rattle.atoms.proofs.MapLaws.{one-to-one}
 use Rattle.records.specs.Records as R
 use Rattle.records.specs.Types.{recordOf}
 use Rattle.records.specs.declared.Record.{Record}

@@ -18,7 +18,7 @@ times-fixed zero f x e = refl
 times-fixed (suc n) f x e = ap (times n f) e ∙ times-fixed n f x e
 
 -- how many rules' heads are not in S: it falls with every pass that adds something
-pub lacking : List Rule → ℕ → ℕ
+lacking : List Rule → ℕ → ℕ
 lacking [] S = 0
 lacking (r ∷ rs) S = 1 - bit S (r .head) + lacking rs S
 
@@ -94,10 +94,10 @@ module _ (on : Rule → ℕ → Bool) where
   pass-within Q [] S hS h = hS
   pass-within Q (r ∷ rs) S hS h = pass-within Q rs (fire r S) (fire-within Q r S hS (h .0)) (h .1)
 
-  abbrev pub KeptBy : ℕ → List Rule → Type 0
+  abbrev KeptBy : ℕ → List Rule → Type 0
   KeptBy S rs = Every (λ r. on r S ≡ true → Member (r .head) S) rs
 
-  pub pass-news : (rs : List Rule) → Every Headed rs → (S : ℕ) → ((passBy on rs S ≡ S) × KeptBy S rs) ⊎ (lacking rs (passBy on rs S) < lacking rs S)
+  pass-news : (rs : List Rule) → Every Headed rs → (S : ℕ) → ((passBy on rs S ≡ S) × KeptBy S rs) ⊎ (lacking rs (passBy on rs S) < lacking rs S)
   unfolding passBy lacking fire
   pass-news [] h S = inl (refl, tt)
   pass-news (r ∷ rs) h S = go (fire-news r (h .0) S) (pass-news rs (h .1) S)
@@ -119,12 +119,12 @@ module _ (on : Rule → ℕ → Bool) where
           let j : bit X (r .head) ≡ 1 = pass-grows rs (fire r S) (r .head) i in
           inr (omega (arith, lacking-falls rs S X grows))
 
-  pub times-grows : (n : ℕ) (rs : List Rule) (S : ℕ) → Subset S (times n (passBy on rs) S)
+  times-grows : (n : ℕ) (rs : List Rule) (S : ℕ) → Subset S (times n (passBy on rs) S)
   unfolding times
   times-grows zero rs S k m = m
   times-grows (suc n) rs S k m = times-grows n rs (passBy on rs S) k (pass-grows rs S k m)
 
-  pub times-within : (Q : ℕ → Type 0) (n : ℕ) (rs : List Rule) (S : ℕ) → ((k : ℕ) → Member k S → Q k) → Every (Keeps Q) rs
+  times-within : (Q : ℕ → Type 0) (n : ℕ) (rs : List Rule) (S : ℕ) → ((k : ℕ) → Member k S → Q k) → Every (Keeps Q) rs
       → (k : ℕ) → Member k (times n (passBy on rs) S) → Q k
   unfolding times
   times-within Q zero rs S hS h = hS

@@ -1,7 +1,8 @@
--- The laws of passes, closures and models.
+-- The laws of passes, closures, reducts and models.
 pub mod ListLaws
 pub mod ClosureLaws
 pub mod LeastLaws
+pub mod ReductLaws
 pub mod StratifiedLaws
 pub mod LevelLaws
 pub mod TheoremsProof

@@ -23,9 +23,9 @@ times-in : (n : ℕ) (f : ℕ → ℕ) (x : ℕ) → times (suc n) f x ≡ times
 unfolding times
 times-in n f x = refl
 
--- what `Closed` asks of S
-abbrev Kept : ℕ → List Rule → Type 0
-Kept S rs = Every (λ r. Subset (r .positive) S → Member (r .head) S) rs
+-- S is closed under rules
+abbrev Respects : ℕ → List Rule → Type 0
+Respects S rs = Every (λ r. Subset (r .positive) S → Member (r .head) S) rs
 
 -- `lev` gives each atom a level. No positive atom of a rule is above the head, every negated one is below it, and no head is above `top`.
 
@@ -48,8 +48,8 @@ module _ (lev : ℕ → ℕ) (top : ℕ) where
   same-struck i A B g r h l e =
       true-disjoint (r .negated) B (λ k m n. disjoint-true (r .negated) A e k m (g k (omega (arith, h .levelled .negated k m)) ∙ n))
 
-  -- what one derives at the levels up to i, the other does: each rule that A leaves keeps "up to level i, in X", if X is closed under what B leaves
-  left-keeps : (i A B X : ℕ) → Agree i A B → (rs : List Rule) → Every (Ranked lev top) rs → Kept X (reduct B rs)
+  -- what one derives at the levels up to i, the other does: each rule that A leaves keeps what is up to level i in X, if X is closed under what B leaves
+  left-keeps : (i A B X : ℕ) → Agree i A B → (rs : List Rule) → Every (Ranked lev top) rs → Respects X (reduct B rs)
       → Every (λ r. ((k : ℕ) → Member k (r .positive) → lev k ≤ i → Member k X) → lev (r .head) ≤ i → Member (r .head) X) (reduct A rs)
   unfolding reduct
   left-keeps i A B X g [] h q = tt
@@ -58,8 +58,8 @@ module _ (lev : ℕ → ℕ) (top : ℕ) where
       Goal : Rule → Type 0
       Goal r = ((k : ℕ) → Member k (r .positive) → lev k ≤ i → Member k X) → lev (r .head) ≤ i → Member (r .head) X
 
-      go : (a b : Bool) → disjoint (r .negated) A ≡ a → disjoint (r .negated) B ≡ b → Kept X (cond b (positiveOnly r ∷ reduct B rs) (reduct B rs))
-          → (Kept X (reduct B rs) → Every Goal (reduct A rs)) → Every Goal (cond a (positiveOnly r ∷ reduct A rs) (reduct A rs))
+      go : (a b : Bool) → disjoint (r .negated) A ≡ a → disjoint (r .negated) B ≡ b → Respects X (cond b (positiveOnly r ∷ reduct B rs) (reduct B rs))
+          → (Respects X (reduct B rs) → Every Goal (reduct A rs)) → Every Goal (cond a (positiveOnly r ∷ reduct A rs) (reduct A rs))
       go true true e f q ih = (λ hq l. q .0 (λ k m. hq k m (omega (arith, h .0 .levelled .positive k m))), ih (q .1))
       go true false e f q ih = (λ hq l. absurd (true≢false (sym (same-struck i A B g r (h .0) l e) ∙ f)), ih q)
       go false true e f q ih = ih (q .1)
@@ -103,7 +103,7 @@ module _ (lev : ℕ → ℕ) (top : ℕ) where
       go false false e f ih = ih
 
   -- so from any two candidates the same set is reached
-  pub settled : (C A B : ℕ) (rs : List Rule) → Every (Ranked lev top) rs
+  settled : (C A B : ℕ) (rs : List Rule) → Every (Ranked lev top) rs
       → times (suc top) (consequences rs C) A ≡ times (suc top) (consequences rs C) B
   unfolding consequences
   settled C A B rs h =

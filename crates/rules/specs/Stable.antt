@@ -7,6 +7,10 @@ use Prim.Native.Nat.{ℕ}
 use Rattle.atoms.specs.Sets.{Member, Subset, disjoint, empty}
 use Rattle.rules.specs.Rules.{Every, Rule}
 
+-- "strike each rule that negates an atom of M": r is none of them
+abbrev pub Unstruck : ℕ → Rule → Type 0
+Unstruck M r = (k : ℕ) → Member k (r .negated) → Member k M → ⊥
+
 -- "then drop the negated parts of the others"
 abbrev pub positiveOnly : Rule → Rule
 positiveOnly r = record { head = r .head; positive = r .positive; negated = empty }

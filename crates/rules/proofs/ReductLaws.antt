@@ -1,0 +1,39 @@
+-- What the reduct keeps, and which rules apply in a stable set. Assumes nothing.
+use mathlib.Core.Path.{_∙_, _≡_, refl, subst, sym}
+use mathlib.Core.Logic.{_↔_}
+use mathlib.Core.Bool.{Bool, cond, false, true, true≢false}
+use mathlib.Core.List.{List, [], _∷_}
+use Prim.Native.Nat.{ℕ}
+use Rattle.atoms.specs.Sets.{Member, Subset, disjoint, empty}
+use Rattle.atoms.proofs.SetLaws.{disjoint-true, empty-subset, none-in-empty, true-disjoint}
+use Rattle.rules.specs.Rules.{Every, Rule}
+use Rattle.rules.specs.Stable.{Stable, Unstruck, positiveOnly, reduct}
+use Rattle.rules.specs.Theorems.{BodyHolds}
+use Rattle.rules.proofs.ListLaws.{every-imp}
+
+pub reduct-every : (M : ℕ) (rs : List Rule) (P : Rule → Type 0) → Every P (reduct M rs) ↔ Every (λ r. Unstruck M r → P (positiveOnly r)) rs
+unfolding reduct
+reduct-every M [] P = (λ h. tt, λ h. tt)
+reduct-every M (r ∷ rs) P = go (disjoint (r .negated) M) refl (reduct-every M rs P)
+  where
+    Left : Rule → Type 0
+    Left r = Unstruck M r → P (positiveOnly r)
+
+    go : (b : Bool) → disjoint (r .negated) M ≡ b → Every P (reduct M rs) ↔ Every Left rs
+        → Every P (cond b (positiveOnly r ∷ reduct M rs) (reduct M rs)) ↔ (Left r × Every Left rs)
+    go true e ih = (λ h. (λ _. h .0, ih .0 (h .1)), λ h. (h .0 (disjoint-true (r .negated) M e), ih .1 (h .1)))
+    go false e ih = (λ h. (λ u. absurd (true≢false (sym (true-disjoint (r .negated) M u) ∙ e)), ih .0 h), λ h. ih .1 (h .1))
+
+pub stable-applied : (rs : List Rule) (C M : ℕ) → Stable rs C M → Every (λ r. BodyHolds M r → Member (r .head) M) rs
+stable-applied rs C M s =
+    every-imp _ (λ r. BodyHolds M r → Member (r .head) M) (λ r h b. h (b .negated) (b .positive)) rs
+    (reduct-every M rs (λ r. Subset (r .positive) M → Member (r .head) M) .0 (s .one .respects))
+
+pub two-sided : (r : Rule) (k : ℕ) → Member k (r .positive) → Member k (r .negated) → (M : ℕ) → BodyHolds M r → ⊥
+two-sided r k p n M b = b .negated k n (b .positive k p)
+
+pub empty-body : (r : Rule) → r .positive ≡ empty → r .negated ≡ empty → (M : ℕ) → BodyHolds M r
+empty-body r p n M = record {
+  positive = subst (λ (s : ℕ). Subset s M) (sym p) (empty-subset M);
+  negated = λ k m _. none-in-empty k (subst (λ (s : ℕ). Member k s) n m);
+}
