@@ -1,4 +1,4 @@
-// Document 01's run-only cases: prints what the gate says to each.
+// Document 01's run-only cases: prints the answer to each.
 mod policies;
 mod print;
 mod write;
@@ -9,6 +9,7 @@ fn main() {
     policies::heads();
     policies::access_bodies();
     policies::disclosure_bodies();
+    policies::pairs();
     policies::levels();
     policies::high_levels();
     policies::order();

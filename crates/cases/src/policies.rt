@@ -33,12 +33,13 @@ pub(crate) fn lengths() {
     first(b"2303 bytes", &bytes, 2303);
     first(b"2304 bytes", &bytes, 2304);
     first(b"2305 bytes", &bytes, 2305);
+    first(b"2322 bytes", &bytes, 2322);
 }
 
 // "3: kind neither 1 nor 2."
 pub(crate) fn kinds() {
     one(0, 16, NONE, NONE);
-    one(1, 16, NONE, NONE);
+    one(1, 17, NONE, NONE);
     one(2, 0, NONE, NONE);
     one(3, 16, NONE, NONE);
     one(255, 16, NONE, NONE);
@@ -77,6 +78,22 @@ pub(crate) fn disclosure_bodies() {
     one(DISCLOSURE, 0, 0, NONE);
 }
 
+// Two atoms on one side of an access body.
+fn two(name: &[u8], head: u8, positive: AtomSet, negated: AtomSet) {
+    print::text(name);
+    let bytes = write::record(ACCESS, head, positive, negated);
+    print::checked(policy::check(&bytes));
+}
+
+pub(crate) fn pairs() {
+    let low = AtomSet::one(0).union(AtomSet::one(1));
+    let high = AtomSet::one(0).union(AtomSet::one(24));
+    two(b"16 if 0, 1", 16, low, AtomSet::EMPTY);
+    two(b"16 if 0, 24", 16, high, AtomSet::EMPTY);
+    two(b"24 if not 0, not 1", 24, AtomSet::EMPTY, low);
+    two(b"24 if not 0, not 24", 24, AtomSet::EMPTY, high);
+}
+
 // "no positive atom's level is above the head's, and every negated atom's level is smaller than the head's"
 pub(crate) fn levels() {
     one(ACCESS, 16, 15, NONE);
@@ -93,6 +110,10 @@ pub(crate) fn levels() {
     one(ACCESS, 32, NONE, 31);
     one(ACCESS, 39, NONE, 40);
     one(ACCESS, 40, NONE, 39);
+    one(ACCESS, 47, 48, NONE);
+    one(ACCESS, 47, NONE, 48);
+    one(ACCESS, 48, NONE, 47);
+    one(ACCESS, 24, 24, 24);
 }
 
 // "The level of atoms 0 to 62 is the number divided by 8, rounded down; of 63 it is 8."
@@ -113,6 +134,7 @@ pub(crate) fn order() {
     one(0, 255, 63, 63);
     one(ACCESS, 15, 63, NONE);
     one(ACCESS, 16, 63, NONE);
+    one(DISCLOSURE, 16, 63, NONE);
     let mut bytes = write::always_16();
     bytes[18 * 127] = 3;
     first(b"3 at record 127", &bytes, 2304);

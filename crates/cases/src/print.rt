@@ -37,7 +37,7 @@ pub(crate) fn checked(answer: Checked) {
             text(b": refused ");
             number(refusal.number());
             text(b" at ");
-            number(refusal.place());
+            number(refusal.record());
             text(b"\n");
         }
     }

@@ -6,13 +6,13 @@ use atoms::AtomSet;
 use atoms::FIRST_DERIVED;
 use records::ACCESS;
 
-// An access record for atom 16 with an empty body, 128 times, and one byte more.
-pub(crate) fn always_16() -> [u8; 2305]
-    ensures { λ r. ⌜ length r ≡ 2305 ⌝ }
+// An access record for atom 16 with an empty body, 129 times: one record too many.
+pub(crate) fn always_16() -> [u8; 2322]
+    ensures { λ r. ⌜ length r ≡ 2322 ⌝ }
 {
-    let mut policy = [0u8; 2305];
+    let mut policy = [0u8; 2322];
     let mut k: usize = 0;
-    while k < 128 {
+    while k < 129 {
         policy[18 * k] = ACCESS;
         policy[18 * k + 1] = FIRST_DERIVED;
         k += 1;

@@ -1,4 +1,5 @@
 -- Every theorem of specs/Claims. Assumes nothing.
+use mathlib.Core.Path.{refl}
 use Rattle.atoms.proofs.MeaningProof.{meaning}
 use Rattle.rules.proofs.TheoremsProof as rules
 use Rattle.records.proofs.TheoremsProof as records
@@ -7,4 +8,18 @@ use Rattle.demands.specs.Claims.{Claims}
 use Rattle.demands.proofs.MarkedCases.{marked}
 
 pub claims : Claims
-claims = record { sets = meaning; models = rules.theorems; encoding = records.theorems; policies = policy.theorems; marked = marked }
+claims = record {
+  constants = record {
+    last-credential = refl;
+    first-derived = refl;
+    breach-mark = refl;
+    access = refl;
+    disclosure = refl;
+    refused-6-at-0 = (refl, refl);
+  };
+  sets = meaning;
+  models = rules.theorems;
+  encoding = records.theorems;
+  policies = policy.theorems;
+  marked = marked;
+}

@@ -1,12 +1,16 @@
--- The theorems that a customer reads, on one page; proofs/ClaimsProof has them all. What they leave to belief: that `level` (records' specs/Levels) and
--- the maps from the program's types (specs/Types of records and policy) say what the paper says. Assumes nothing.
+-- The theorems that a customer reads, on one page; proofs/ClaimsProof has them all. What they leave to belief: that the definitions which state them
+-- (Member, Closed, Least, Stable, WellFormed, PolicyRefused) and the maps from the program's types (specs/Types of records and policy) say what the
+-- paper says. Assumes nothing.
 use Rattle.atoms.specs.Meaning.{Meaning}
 use Rattle.rules.specs.Theorems as rules
 use Rattle.records.specs.Theorems as records
 use Rattle.policy.specs.Theorems as policy
+use Rattle.demands.specs.Constants.{Constants}
 use Rattle.demands.specs.Marked.{Marked}
 
 pub record Claims : Type 1 where
+  -- the paper's numbers
+  pub constants : Constants
   -- sets of atoms as numbers: what each operation means
   pub sets : Meaning
   -- the closure is the least closed set, and the model the one stable set

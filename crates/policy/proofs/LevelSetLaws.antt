@@ -1,4 +1,4 @@
--- The atoms on the levels below one are the lowest atoms. Assumes nothing.
+-- The atoms on levels below a bound are the lowest atoms. Assumes nothing.
 use mathlib.Core.Path.{_≡_}
 use mathlib.Core.Logic.{_↔_, _⊎_, inl, inr}
 use Prim.Native.Nat.{_*_, _-_, _/_, _<_, _^_, _≤_, ℕ}

@@ -9,7 +9,7 @@ use native.Mathlib.Nat.{le-of-suc-le-suc, lt-of-not-le, not-suc-le-zero}
 use native.Mathlib.Omega.{arith}
 use Rattle.rules.specs.Rules.{Every}
 use Rattle.records.specs.Records.{Record, recordAt, wholeRecords}
-use Rattle.policy.specs.Theorems.{FirstFault, Numbers, Tested}
+use Rattle.policy.specs.Theorems.{Faulty, Numbers, Tested}
 use Rattle.policy.specs.WrittenForm.{FirstBroken, Form, Lengths, PolicyRefused, Refusal, at}
 use Rattle.policy.proofs.RefusalLaws.{number-is, place-is}
 
@@ -84,7 +84,7 @@ module _ (bytes : List ℕ) where
 
   -- the number of the statement at place i of a record's form
   record-given : (i : ℕ) → i < 4 → (n : ℕ) → ((d : Record) → numberAt (Form d) i ≡ n) → (k : ℕ)
-      → PolicyRefused bytes (at n k) ↔ FirstFault bytes k (λ d. BrokenAt (Form d) i)
+      → PolicyRefused bytes (at n k) ↔ Faulty bytes k (λ d. BrokenAt (Form d) i)
   record-given i l n e k = (forth, back)
     where
       d : Record
@@ -93,18 +93,20 @@ module _ (bytes : List ℕ) where
       given : FirstBroken (Form d) (numberAt (Form d) i) ↔ BrokenAt (Form d) i
       given = broken-at 3 (Form d) (rising d) i l
 
-      forth : PolicyRefused bytes (at n k) → FirstFault bytes k (λ d. BrokenAt (Form d) i)
+      forth : PolicyRefused bytes (at n k) → Faulty bytes k (λ d. BrokenAt (Form d) i)
       forth (inl x) = absurd (omega (arith, length-number n k x, e d, number-least 3 (Form d) (rising d) i l))
-      forth (inr (h, x)) = record {
-        lengths = h;
-        inside = x .inside;
-        before = x .before;
-        broken = given .0 (subst (FirstBroken (Form d)) (sym (e d)) (x .broken));
-      }
+      forth (inr (h, x)) = (
+        h,
+        record {
+          inside = x .inside;
+          before = x .before;
+          broken = given .0 (subst (FirstBroken (Form d)) (sym (e d)) (x .broken));
+        },
+      )
 
-      back : FirstFault bytes k (λ d. BrokenAt (Form d) i) → PolicyRefused bytes (at n k)
-      back x = inr (
-        x .lengths,
+      back : Faulty bytes k (λ d. BrokenAt (Form d) i) → PolicyRefused bytes (at n k)
+      back (h, x) = inr (
+        h,
         record { inside = x .inside; before = x .before; broken = subst (FirstBroken (Form d)) (e d) (given .1 (x .broken)) },
       )
 

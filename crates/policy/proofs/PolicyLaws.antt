@@ -13,10 +13,10 @@ use Rattle.records.proofs.RuleLaws.{every-rule}
 use Rattle.policy.specs.WrittenForm.{HeadKept, LevelsKept, RecordKept, WellFormed}
 
 -- what each record keeps, by name
-pub head-kept : (d : Record) → RecordKept d → HeadKept d
+head-kept : (d : Record) → RecordKept d → HeadKept d
 head-kept d h = h .1 .0
 
-pub levels-kept : (d : Record) → RecordKept d → LevelsKept d
+levels-kept : (d : Record) → RecordKept d → LevelsKept d
 levels-kept d h = h .1 .1 .1 .0
 
 module _ (bytes : List ℕ) (b : Bytes bytes) (w : WellFormed bytes) where

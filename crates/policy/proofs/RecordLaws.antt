@@ -67,7 +67,7 @@ decides-disclosureBody r = decides-and _ _ (
   λ f. true-eqb (subset-antisym (λ k m. absurd (f k m)) (empty-subset (r .negated))),
 )
 
-pub decides-levels : (r : Rule) → r .positive < 2 ^ 64 → r .negated < 2 ^ 64 → Decides (accessLevels r) (Levelled level r)
+decides-levels : (r : Rule) → r .positive < 2 ^ 64 → r .negated < 2 ^ 64 → Decides (accessLevels r) (Levelled level r)
 unfolding accessLevels
 decides-levels r p n =
     (λ e. let h = both .0 e in record { positive = h .0; negated = h .1 }, λ l. both .1 (l .positive, l .negated))
@@ -89,10 +89,16 @@ module _ (r : Rule) (p : r .positive < 2 ^ 64) (n : r .negated < 2 ^ 64) where
   pub levels-by-sets : (upTo below : ℕ) → ((k : ℕ) → Member k upTo ↔ ((k ≤ violation) × (level k < level (r .head) + 1)))
       → ((k : ℕ) → Member k below ↔ ((k ≤ violation) × (level k < level (r .head))))
       → (subset (r .positive) upTo && subset (r .negated) below) ≡ accessLevels r
-  levels-by-sets upTo below u l = same-decision _ _ (λ e. record { positive = λ k m. omega (arith, u k .0 (subset-true (r .positive) upTo (both e .0) k m)); negated = λ k m. l k .0 (subset-true (r .negated) below (both e .1) k m) .1 }, back) (decides-levels r p n)
+  levels-by-sets upTo below u l = same-decision _ _ (forth, back) (decides-levels r p n)
     where
       both : (subset (r .positive) upTo && subset (r .negated) below) ≡ true → (subset (r .positive) upTo ≡ true) × (subset (r .negated) below ≡ true)
       both e = and-true (subset (r .positive) upTo) (subset (r .negated) below) e
+
+      forth : (subset (r .positive) upTo && subset (r .negated) below) ≡ true → Levelled level r
+      forth e = record {
+        positive = λ k m. omega (arith, u k .0 (subset-true (r .positive) upTo (both e .0) k m));
+        negated = λ k m. l k .0 (subset-true (r .negated) below (both e .1) k m) .1;
+      }
 
       back : Levelled level r → (subset (r .positive) upTo && subset (r .negated) below) ≡ true
       back h = both-true

@@ -23,15 +23,15 @@ pub place-is : {n k m j : ℕ} → at n k ≡ at m j → k ≡ j
 place-is e = cc
 
 module _ (bytes : List ℕ) (b : Bytes bytes) where
-  abbrev Kept : ℕ → Type 0
-  Kept j = RecordKept (recordAt bytes j)
+  abbrev KeptAt : ℕ → Type 0
+  KeptAt j = RecordKept (recordAt bytes j)
 
   decide-at : (k : ℕ) → DecideAll (tests (recordAt bytes k)) (Form (recordAt bytes k))
   decide-at k = decide-record (recordAt bytes k) (record-sized bytes b k)
 
   -- ---- one record
 
-  record-none : (k : ℕ) → (recordRefusal (recordAt bytes k) k ≡ none) ↔ Kept k
+  record-none : (k : ℕ) → (recordRefusal (recordAt bytes k) k ≡ none) ↔ KeptAt k
   unfolding recordRefusal
   record-none k =
       let i = first-none (tests (recordAt bytes k)) (Form (recordAt bytes k)) (decide-at k) in
@@ -49,22 +49,22 @@ module _ (bytes : List ℕ) (b : Bytes bytes) where
 
   -- ---- record k and those after it, n in all
 
-  records-none : (k n : ℕ) → (recordsRefusal bytes k n ≡ none) ↔ ((j : ℕ) → k ≤ j → j < k + n → Kept j)
+  records-none : (k n : ℕ) → (recordsRefusal bytes k n ≡ none) ↔ ((j : ℕ) → k ≤ j → j < k + n → KeptAt j)
   unfolding recordsRefusal
   records-none k zero = (λ e j l m. absurd (omega arith), λ h. refl)
   records-none k (suc n) =
       let i = then-none (recordRefusal (recordAt bytes k) k) (recordsRefusal bytes (suc k) n) (record-none k) (λ h. records-none (suc k) n) in
       (λ e j l m. from (i .0 e) j (eq-or-lt-of-le l) m, λ h. i .1 (h k (omega arith) (omega arith), λ j l m. h j (omega arith) (omega arith)))
     where
-      from : Kept k × ((j : ℕ) → suc k ≤ j → j < suc k + n → Kept j) → (j : ℕ) → (k ≡ j) ⊎ (k < j) → j < k + suc n → Kept j
-      from h j (inl e) m = subst Kept e (h .0)
+      from : KeptAt k × ((j : ℕ) → suc k ≤ j → j < suc k + n → KeptAt j) → (j : ℕ) → (k ≡ j) ⊎ (k < j) → j < k + suc n → KeptAt j
+      from h j (inl e) m = subst KeptAt e (h .0)
       from h j (inr l) m = h .1 j l (omega arith)
 
   -- record p is the first of them that breaks its form, and m the first number that it breaks
   record FirstFrom (k n m p : ℕ) : Type 0 where
     from : k ≤ p
     inside : p < k + n
-    before : (j : ℕ) → k ≤ j → j < p → Kept j
+    before : (j : ℕ) → k ≤ j → j < p → KeptAt j
     broken : FirstBroken (Form (recordAt bytes p)) m
 
   first-here : (k n m p : ℕ) → FirstBroken (Form (recordAt bytes k)) m × (p ≡ k) → FirstFrom k (suc n) m p
@@ -75,7 +75,7 @@ module _ (bytes : List ℕ) (b : Bytes bytes) where
     broken = subst (λ (x : ℕ). FirstBroken (Form (recordAt bytes x)) m) (sym (h .1)) (h .0);
   }
 
-  first-later : (k n m p : ℕ) → Kept k → FirstFrom (suc k) n m p → FirstFrom k (suc n) m p
+  first-later : (k n m p : ℕ) → KeptAt k → FirstFrom (suc k) n m p → FirstFrom k (suc n) m p
   first-later k n m p h x = record {
     from = omega (arith, x .from);
     inside = omega (arith, x .inside);
@@ -83,14 +83,14 @@ module _ (bytes : List ℕ) (b : Bytes bytes) where
     broken = x .broken;
   }
     where
-      before : (j : ℕ) → (k ≡ j) ⊎ (k < j) → j < p → Kept j
-      before j (inl e) i = subst Kept e h
+      before : (j : ℕ) → (k ≡ j) ⊎ (k < j) → j < p → KeptAt j
+      before j (inl e) i = subst KeptAt e h
       before j (inr l) i = x .before j l i
 
-  first-cases : (k n m p : ℕ) → FirstFrom k (suc n) m p → (FirstBroken (Form (recordAt bytes k)) m × (p ≡ k)) ⊎ (Kept k × FirstFrom (suc k) n m p)
+  first-cases : (k n m p : ℕ) → FirstFrom k (suc n) m p → (FirstBroken (Form (recordAt bytes k)) m × (p ≡ k)) ⊎ (KeptAt k × FirstFrom (suc k) n m p)
   first-cases k n m p x = go (eq-or-lt-of-le (x .from))
     where
-      go : (k ≡ p) ⊎ (k < p) → (FirstBroken (Form (recordAt bytes k)) m × (p ≡ k)) ⊎ (Kept k × FirstFrom (suc k) n m p)
+      go : (k ≡ p) ⊎ (k < p) → (FirstBroken (Form (recordAt bytes k)) m × (p ≡ k)) ⊎ (KeptAt k × FirstFrom (suc k) n m p)
       go (inl e) = inl (subst (λ (y : ℕ). FirstBroken (Form (recordAt bytes y)) m) (sym e) (x .broken), sym e)
       go (inr l) = inr (
         x .before k (omega arith) l,
@@ -105,7 +105,7 @@ module _ (bytes : List ℕ) (b : Bytes bytes) where
       (record-none k) (record-some k m p) (λ h. records-some m p (suc k) n) in
       (λ e. forth (i .0 e), λ x. i .1 (first-cases k n m p x))
     where
-      forth : (FirstBroken (Form (recordAt bytes k)) m × (p ≡ k)) ⊎ (Kept k × FirstFrom (suc k) n m p) → FirstFrom k (suc n) m p
+      forth : (FirstBroken (Form (recordAt bytes k)) m × (p ≡ k)) ⊎ (KeptAt k × FirstFrom (suc k) n m p) → FirstFrom k (suc n) m p
       forth (inl h) = first-here k n m p h
       forth (inr h) = first-later k n m p (h .0) (h .1)
 

@@ -10,23 +10,20 @@ use Rattle.rules.specs.Model.{model}
 use Rattle.rules.specs.Rules.{Every, Stratified}
 use Rattle.rules.specs.Stable.{OneStable}
 use Rattle.records.specs.Levels.{level}
-use Rattle.records.specs.Records.{Record, accessKind, recordAt, rulesOf, wholeRecords}
+use Rattle.records.specs.Records.{Record, accessKind, rulesOf, wholeRecords}
 use Rattle.policy.specs.PolicyTest.{policyRefusal}
 use Rattle.policy.specs.Types.{checkedOf}
-use Rattle.policy.specs.WrittenForm.{AllKept, BodyKept, HeadKept, KindKept, Lengths, LevelsKept, PolicyRefused, RecordKept, Refusal, WellFormed, at}
+use Rattle.policy.specs.WrittenForm.{AllKept, BodyKept, FirstFault, HeadKept, KindKept, Lengths, LevelsKept, PolicyRefused, Refusal, WellFormed, at}
 use Rattle.policy.specs.declared.Checked.{Checked}
 
--- What the policy's test answers, o. Demand 1: "Every policy of the written form is accepted", and "All else is refused with its number from document 01".
+-- What the policy's test answers, o. Demand 1: every policy of the written form is accepted, and all else is refused with its number.
 pub record Tested (bytes : List ℕ) (o : Option Refusal) : Type 0 where
   pub accepts : (o ≡ none) ↔ WellFormed bytes
   pub refuses : (f : Refusal) → (o ≡ some f) ↔ PolicyRefused bytes f
 
--- The lengths are kept, and record k is the first that breaks its form: it breaks it as Broken says.
-pub record FirstFault (bytes : List ℕ) (k : ℕ) (Broken : Record → Type 0) : Type 0 where
-  pub lengths : AllKept (Lengths bytes)
-  pub inside : k < wholeRecords bytes
-  pub before : (j : ℕ) → j < k → RecordKept (recordAt bytes j)
-  pub broken : Broken (recordAt bytes k)
+-- the lengths are kept, and record k is the first at fault
+abbrev pub Faulty : List ℕ → ℕ → (Record → Type 0) → Type 0
+Faulty bytes k Broken = AllKept (Lengths bytes) × FirstFault bytes k Broken
 
 -- When each number is given, with which record number.
 pub record Numbers (bytes : List ℕ) (o : Option Refusal) : Type 0 where
@@ -35,13 +32,13 @@ pub record Numbers (bytes : List ℕ) (o : Option Refusal) : Type 0 where
   -- "2: length not a multiple of 18; number of whole records."
   pub two : (k : ℕ) → (o ≡ some (at 2 k)) ↔ ((length bytes ≤ 2304) × (length bytes % 18 ≡ 0 → ⊥) × (k ≡ wholeRecords bytes))
   -- "3: kind neither 1 nor 2."
-  pub three : (k : ℕ) → (o ≡ some (at 3 k)) ↔ FirstFault bytes k (λ d. KindKept d → ⊥)
+  pub three : (k : ℕ) → (o ≡ some (at 3 k)) ↔ Faulty bytes k (λ d. KindKept d → ⊥)
   -- "4: head not allowed for the kind."
-  pub four : (k : ℕ) → (o ≡ some (at 4 k)) ↔ FirstFault bytes k (λ d. KindKept d × (HeadKept d → ⊥))
+  pub four : (k : ℕ) → (o ≡ some (at 4 k)) ↔ Faulty bytes k (λ d. KindKept d × (HeadKept d → ⊥))
   -- "5: body atom not allowed for the kind."
-  pub five : (k : ℕ) → (o ≡ some (at 5 k)) ↔ FirstFault bytes k (λ d. KindKept d × (HeadKept d × (BodyKept d → ⊥)))
+  pub five : (k : ℕ) → (o ≡ some (at 5 k)) ↔ Faulty bytes k (λ d. KindKept d × (HeadKept d × (BodyKept d → ⊥)))
   -- "6: level broken."
-  pub six : (k : ℕ) → (o ≡ some (at 6 k)) ↔ FirstFault bytes k (λ d. KindKept d × (HeadKept d × (BodyKept d × (LevelsKept d → ⊥))))
+  pub six : (k : ℕ) → (o ≡ some (at 6 k)) ↔ Faulty bytes k (λ d. KindKept d × (HeadKept d × (BodyKept d × (LevelsKept d → ⊥))))
   -- "The policy's test gives only 1 to 6"
   pub only : (n k : ℕ) → o ≡ some (at n k) → (1 ≤ n) × (n ≤ 6)
 

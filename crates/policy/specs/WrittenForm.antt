@@ -50,7 +50,8 @@ BodyKept d = (d .kind ≡ accessKind → AccessBody (d .rule)) × (d .kind ≡ d
 abbrev pub LevelsKept : Record → Type 0
 LevelsKept d = d .kind ≡ accessKind → Levelled level (d .rule)
 
--- what a record keeps. "3: kind neither 1 nor 2. 4: head not allowed for the kind. 5: body atom not allowed for the kind. 6: level broken."
+-- what a record keeps, with the number where it does not: "3: kind neither 1 nor 2.", "4: head not allowed for the kind.", "5: body atom not allowed
+-- for the kind.", "6: level broken."
 abbrev pub Form : Record → List (Type 0 × ℕ)
 Form d = (KindKept d, 3) ∷ (HeadKept d, 4) ∷ (BodyKept d, 5) ∷ (LevelsKept d, 6) ∷ []
 
@@ -63,11 +64,11 @@ RecordKept d = AllKept (Form d)
 pub data Refusal : Type 0 where
   at : ℕ → ℕ → Refusal
 
-abbrev pub numberOf : Refusal → ℕ
-numberOf (at n k) = n
+abbrev pub refusalNumber : Refusal → ℕ
+refusalNumber (at n k) = n
 
-abbrev pub placeOf : Refusal → ℕ
-placeOf (at n k) = k
+abbrev pub recordNumber : Refusal → ℕ
+recordNumber (at n k) = k
 
 -- "1: more than 2,304 bytes; record number 128." "2: length not a multiple of 18; number of whole records."
 abbrev pub Lengths : List ℕ → List (Type 0 × Refusal)
@@ -78,11 +79,15 @@ pub record WellFormed (bytes : List ℕ) : Type 0 where
   pub lengths : AllKept (Lengths bytes)
   pub records : (k : ℕ) → k < wholeRecords bytes → RecordKept (recordAt bytes k)
 
--- "records are tested in turn, each by 3 to 6": record k is the first that breaks its form, and n the first number that it breaks
-pub record RecordRefused (bytes : List ℕ) (n k : ℕ) : Type 0 where
+-- "records are tested in turn": record k is the first that breaks its form, and it breaks it as Broken says
+pub record FirstFault (bytes : List ℕ) (k : ℕ) (Broken : Record → Type 0) : Type 0 where
   pub inside : k < wholeRecords bytes
   pub before : (j : ℕ) → j < k → RecordKept (recordAt bytes j)
-  pub broken : FirstBroken (Form (recordAt bytes k)) n
+  pub broken : Broken (recordAt bytes k)
+
+-- "each by 3 to 6": n is the first number that record k breaks
+abbrev pub RecordRefused : List ℕ → ℕ → ℕ → Type 0
+RecordRefused bytes n k = FirstFault bytes k (λ d. FirstBroken (Form d) n)
 
 -- the policy is refused with number n at record k
 abbrev pub PolicyRefused : List ℕ → Refusal → Type 0

@@ -14,7 +14,7 @@ use records::ACCESS;
 use records::DISCLOSURE;
 use records::Record;
 
-// The test of a record that stands at place k.
+// The test of record k.
 pub(crate) fn check_record(parsed: Record, k: u8) -> Checked
     ensures { λ r. ⌜ checkedOf r ≡ recordRefusal (recordOf parsed) k ⌝ }
 {
@@ -72,5 +72,5 @@ fn disclosure_head(parsed: Record) -> bool
 fn disclosure_body(parsed: Record) -> bool
     ensures { λ r. ⌜ r ≡ disclosureBody (recordOf parsed .rule) ⌝ }
 {
-    parsed.positive.bits < 65536 && parsed.negated.bits == 0
+    parsed.positive.bits < 0x1_0000 && parsed.negated.bits == 0
 }

@@ -21,7 +21,7 @@ pub(crate) fn access_levels(parsed: Record) -> bool
     parsed.positive.is_subset(up_to) && parsed.negated.is_subset(below)
 }
 
-// The atoms on the levels below one.
+// The atoms on levels below `bound`.
 fn atoms_below(bound: u8) -> AtomSet
     ensures { λ r. ⌜ ((k : ℕ) → Member k (r .bits) ↔ ((k ≤ violation) × (level k < bound))) ⌝ }
 {

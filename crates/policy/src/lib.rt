@@ -14,6 +14,9 @@ mod form;
 mod levels;
 pub mod refusal;
 
+// 128 records of 18 bytes.
+const MOST_BYTES: usize = 2304;
+
 // What the policy's test answers.
 pub enum Checked {
     Accepted,
@@ -27,7 +30,7 @@ pub fn check(policy: &[u8]) -> Checked
     ensures unchanged { λ _. ⌜ now (policy .exit) ≡ now (policy .entry) ⌝ }
 {
     let bytes = policy.len();
-    if bytes > 2304 {
+    if bytes > MOST_BYTES {
         return Checked::Refused(Refusal::TooLong);
     }
     let records = bytes / 18;
@@ -60,6 +63,6 @@ fn check_at(policy: &[u8], k: usize) -> Checked
     ensures { λ r. ⌜ checkedOf r ≡ recordRefusal (recordAt (now (policy .entry)) k) k ⌝ }
 {
     let parsed = read_record(&policy[18 * k..18 * k + 18]);
-    let place = k as u8;
-    check_record(parsed, place)
+    let number = k as u8;
+    check_record(parsed, number)
 }

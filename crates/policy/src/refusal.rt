@@ -1,7 +1,7 @@
 // Refusals of a policy, and document 01's numbers for them.
 ghost use mathlib.Core.Path.{_≡_};
 ghost use Rattle.policy.specs.Types.{refusalOf};
-ghost use Rattle.policy.specs.WrittenForm.{numberOf, placeOf};
+ghost use Rattle.policy.specs.WrittenForm.{recordNumber, refusalNumber};
 
 // Why a policy is refused: each case but the first with the record's number, counted from 0.
 pub enum Refusal {
@@ -22,7 +22,7 @@ pub enum Refusal {
 impl Refusal {
     // Document 01's number of the refusal, 1 to 6.
     pub fn number(self) -> u8
-        ensures { λ r. ⌜ r ≡ numberOf (refusalOf self) ⌝ }
+        ensures { λ r. ⌜ r ≡ refusalNumber (refusalOf self) ⌝ }
     {
         match self {
             Refusal::TooLong => 1,
@@ -35,8 +35,8 @@ impl Refusal {
     }
 
     // The record number that document 01 gives with it.
-    pub fn place(self) -> u8
-        ensures { λ r. ⌜ r ≡ placeOf (refusalOf self) ⌝ }
+    pub fn record(self) -> u8
+        ensures { λ r. ⌜ r ≡ recordNumber (refusalOf self) ⌝ }
     {
         match self {
             Refusal::TooLong => 128,

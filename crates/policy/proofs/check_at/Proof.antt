@@ -29,8 +29,8 @@ part-read-record-end c = search needs
 read-record-requires : tie.Need-read-record-requires
 read-record-requires c κs = search needs
 
-cast-place : tie.Need-cast-place
-cast-place c = search needs
+cast-number : tie.Need-cast-number
+cast-number c = search needs
 
 check-record-requires : tie.Need-check-record-requires
 check-record-requires c κs = search needs
@@ -52,6 +52,6 @@ check-at-spec =
     part-read-record-start
     part-read-record-end
     read-record-requires
-    cast-place
+    cast-number
     check-record-requires
     returns)

@@ -7,10 +7,10 @@ use Rattle.cases.proofs.write.always_16.Statement.{statement}
 use Rattle.cases.proofs.write.always_16.Tie as tie
 
 abbrev Inv-loop : tie.InvT-loop
-Inv-loop policy₀ k₀ policy k = (k ≤ 128) × (length policy ≡ 2305)
+Inv-loop policy₀ k₀ policy k = (k ≤ 129) × (length policy ≡ 2322)
 
 abbrev μ-loop : tie.MeasureT-loop
-μ-loop policy₀ k₀ policy k = 128 - k
+μ-loop policy₀ k₀ policy k = 129 - k
 
 loop-holds : tie.Need-loop-holds Inv-loop μ-loop
 loop-holds c = search needs

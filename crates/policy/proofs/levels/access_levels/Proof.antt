@@ -1,4 +1,4 @@
--- `policy::levels::access_levels` meets its contract: the masks are the sets of the lower levels. Assumes nothing.
+-- `policy::levels::access_levels` meets its contract: both masks are sets of atoms on lower levels. Assumes nothing.
 use mathlib.Core.Path.{_≡_}
 use mathlib.Core.Bool.{_&&_}
 use borrow.Author.Needs.{needs}

@@ -1,4 +1,4 @@
--- `policy::levels::atoms_below` meets its contract: the atoms on the levels below one are the lowest ones. Assumes nothing.
+-- `policy::levels::atoms_below` meets its contract: the atoms on levels below the bound are the lowest ones. Assumes nothing.
 use mathlib.Core.Path.{_≡_, refl}
 use mathlib.Core.Logic.{inl, inr}
 use Prim.Native.Nat.{_%_, _*_, _<_, _^_}
