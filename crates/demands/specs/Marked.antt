@@ -1,5 +1,5 @@
--- Document 01, "Marked for proof, and others": the marked cases, as the paper words them. Cases (a) to (e) and (j) join with the model and with rounds.
--- Assumes nothing.
+-- Document 01, "Marked for proof, and others": the marked cases, as the paper words them. Cases (a) to (e) and (j) join with the model and with
+-- rounds. Assumes nothing.
 use mathlib.Core.Path.{_≡_}
 use mathlib.Core.List.{[], _∷_}
 use mathlib.Core.Option.{none, some}

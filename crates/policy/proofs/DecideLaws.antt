@@ -89,7 +89,8 @@ unfolding orElse
 then-none none p i j = (λ e. (i .0 refl, j (i .0 refl) .0 e), λ h. j (h .0) .1 (h .1))
 then-none (some a) p i j = (λ e. absurd (Option·some-ne-none a e), λ h. absurd (Option·some-ne-none a (i .1 (h .0))))
 
-pub then-some : {A : Type 0} {K R L : Type 0} (a : A) (o p : Option A) → (o ≡ none) ↔ K → (o ≡ some a) ↔ R → (K → (p ≡ some a) ↔ L) → (orElse o p ≡ some a) ↔ (R ⊎ (K × L))
+pub then-some : {A : Type 0} {K R L : Type 0} (a : A) (o p : Option A) → (o ≡ none) ↔ K → (o ≡ some a) ↔ R → (K → (p ≡ some a) ↔ L)
+    → (orElse o p ≡ some a) ↔ (R ⊎ (K × L))
 unfolding orElse
 then-some {A} {K} {R} {L} a none p i j l = (λ e. inr (i .0 refl, l (i .0 refl) .0 e), back)
   where
@@ -108,4 +109,7 @@ map-none f (some a) = (λ e. absurd (Option·some-ne-none (f a) e), λ e. absurd
 
 pub map-some : {A B : Type 0} (f : A → B) (o : Option A) (b : B) → (Option·map f o ≡ some b) ↔ ((a : A) × (o ≡ some a) × (b ≡ f a))
 map-some f none b = (λ e. absurd (Option·none-ne-some b e), λ h. absurd (Option·none-ne-some (h .0) (h .1)))
-map-some f (some a) b = (λ e. (a, refl, sym (Option·some-injective (f a) b e)), λ h. ap some (ap f (Option·some-injective a (h .0) (h .1)) ∙ sym (h .2)))
+map-some f (some a) b = (
+  λ e. (a, refl, sym (Option·some-injective (f a) b e)),
+  λ h. ap some (ap f (Option·some-injective a (h .0) (h .1)) ∙ sym (h .2)),
+)

@@ -50,4 +50,5 @@ pub record Theorems : Type 0 where
   -- an accepted policy's access rules keep the levels
   pub stratified : (bytes : List ℕ) → Bytes bytes → WellFormed bytes → Every (Stratified level) (rulesOf accessKind bytes)
   -- "For every accepted policy and every C just one stable set exists; that is the model."
-  pub models : (bytes : List ℕ) → Bytes bytes → WellFormed bytes → (C : ℕ) → OneStable (rulesOf accessKind bytes) C (model (rulesOf accessKind bytes) C)
+  pub models : (bytes : List ℕ) → Bytes bytes → WellFormed bytes → (C : ℕ)
+      → OneStable (rulesOf accessKind bytes) C (model (rulesOf accessKind bytes) C)

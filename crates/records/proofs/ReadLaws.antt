@@ -28,7 +28,8 @@ record-sized bytes h k = record { positive = word-lt 2 part inside; negated = wo
     inside = bytes-take 18 (drop (18 * k) bytes) (bytes-drop (18 * k) bytes h)
 
 -- the part that is handed to the reader, where the policy has record k
-pub part-read : (bytes : List ℕ) (k : ℕ) → 18 * k + 18 ≤ length bytes → readPart (take (18 * k + 18 - 18 * k) (drop (18 * k) bytes)) ≡ recordAt bytes k
+pub part-read : (bytes : List ℕ) (k : ℕ) → 18 * k + 18 ≤ length bytes
+    → readPart (take (18 * k + 18 - 18 * k) (drop (18 * k) bytes)) ≡ recordAt bytes k
 part-read bytes k l =
     let whole : 18 * k + 18 - 18 * k ≡ 18 = omega arith in
     rw whole (ap (λ (b : Bool). cond b (recordAt bytes k) blank) (le-leb 18 (length (take 18 (drop (18 * k) bytes))) fits))

@@ -67,13 +67,15 @@ module _ (on : Rule → ℕ → Bool) where
           pick (inr i) = subst Q (sym (member-single (r .head) k i)) (hr S hS e)
       go false e k m = hS k m
 
-  -- either the rule adds nothing and is kept, or its head is new
-  fire-news : (r : Rule) → Headed r → (S : ℕ) → ((fire r S ≡ S) × (on r S ≡ true → Member (r .head) S)) ⊎ ((bit S (r .head) ≡ 0) × Member (r .head) (fire r S))
+  -- from S to X: either the rule added nothing and is kept, or its head is new
+  abbrev Fired : Rule → ℕ → ℕ → Type 0
+  Fired r S X = ((X ≡ S) × (on r S ≡ true → Member (r .head) S)) ⊎ ((bit S (r .head) ≡ 0) × Member (r .head) X)
+
+  fire-news : (r : Rule) → Headed r → (S : ℕ) → Fired r S (fire r S)
   unfolding fire
   fire-news r l S = go (on r S) refl (bit S (r .head)) refl
     where
-      go : (b : Bool) → on r S ≡ b → (x : ℕ) → bit S (r .head) ≡ x
-          → ((cond b (union S (single (r .head))) S ≡ S) × (on r S ≡ true → Member (r .head) S)) ⊎ ((bit S (r .head) ≡ 0) × Member (r .head) (cond b (union S (single (r .head))) S))
+      go : (b : Bool) → on r S ≡ b → (x : ℕ) → bit S (r .head) ≡ x → Fired r S (cond b (union S (single (r .head))) S)
       go true e zero z = inr (z, union-right S (single (r .head)) (r .head) (single-own (r .head) l))
       go true e (suc x) z =
           let h : Member (r .head) S = omega (arith, bit-lt S (r .head)) in
@@ -89,7 +91,8 @@ module _ (on : Rule → ℕ → Bool) where
   pass-grows [] S k m = m
   pass-grows (r ∷ rs) S k m = pass-grows rs (fire r S) k (fire-grows r S k m)
 
-  pass-within : (Q : ℕ → Type 0) (rs : List Rule) (S : ℕ) → ((k : ℕ) → Member k S → Q k) → Every (Keeps Q) rs → (k : ℕ) → Member k (passBy on rs S) → Q k
+  pass-within : (Q : ℕ → Type 0) (rs : List Rule) (S : ℕ) → ((k : ℕ) → Member k S → Q k) → Every (Keeps Q) rs
+      → (k : ℕ) → Member k (passBy on rs S) → Q k
   unfolding passBy fire
   pass-within Q [] S hS h = hS
   pass-within Q (r ∷ rs) S hS h = pass-within Q rs (fire r S) (fire-within Q r S hS (h .0)) (h .1)
@@ -108,8 +111,7 @@ module _ (on : Rule → ℕ → Bool) where
       grows : Subset S X
       grows k m = pass-grows rs (fire r S) k (fire-grows r S k m)
 
-      go : ((fire r S ≡ S) × (on r S ≡ true → Member (r .head) S)) ⊎ ((bit S (r .head) ≡ 0) × Member (r .head) (fire r S))
-          → ((passBy on rs S ≡ S) × KeptBy S rs) ⊎ (lacking rs (passBy on rs S) < lacking rs S)
+      go : Fired r S (fire r S) → ((passBy on rs S ≡ S) × KeptBy S rs) ⊎ (lacking rs (passBy on rs S) < lacking rs S)
           → ((X ≡ S) × KeptBy S (r ∷ rs)) ⊎ (1 - bit X (r .head) + lacking rs X < 1 - bit S (r .head) + lacking rs S)
       go (inl (e, k)) (inl (p, q)) = inl (ap (passBy on rs) e ∙ p, (k, q))
       go (inl (e, k)) (inr l) =
@@ -141,7 +143,8 @@ module _ (on : Rule → ℕ → Bool) where
   times-kept (suc n) rs a S h = go (pass-news rs a S) (λ l. times-kept n rs a (passBy on rs S) l)
     where
       go : ((passBy on rs S ≡ S) × KeptBy S rs) ⊎ (lacking rs (passBy on rs S) < lacking rs S)
-          → (lacking rs (passBy on rs S) ≤ n → KeptBy (times n (passBy on rs) (passBy on rs S)) rs) → KeptBy (times n (passBy on rs) (passBy on rs S)) rs
+          → (lacking rs (passBy on rs S) ≤ n → KeptBy (times n (passBy on rs) (passBy on rs S)) rs)
+          → KeptBy (times n (passBy on rs) (passBy on rs S)) rs
       go (inl (e, k)) ih = subst (λ (x : ℕ). KeptBy x rs) (sym (ap (times n (passBy on rs)) e ∙ times-fixed n (passBy on rs) S e)) k
       go (inr l) ih = ih (omega arith)
 
@@ -154,6 +157,7 @@ module _ (on : Rule → ℕ → Bool) where
   unfolding closureBy
   closureBy-kept rs h C = times-kept _ rs h C (lacking-most rs C)
 
-  pub closureBy-within : (Q : ℕ → Type 0) (rs : List Rule) (C : ℕ) → ((k : ℕ) → Member k C → Q k) → Every (Keeps Q) rs → (k : ℕ) → Member k (closureBy on rs C) → Q k
+  pub closureBy-within : (Q : ℕ → Type 0) (rs : List Rule) (C : ℕ) → ((k : ℕ) → Member k C → Q k) → Every (Keeps Q) rs
+      → (k : ℕ) → Member k (closureBy on rs C) → Q k
   unfolding closureBy
   closureBy-within Q rs C = times-within Q _ rs C

@@ -13,7 +13,8 @@ use Rattle.rules.proofs.ListLaws.{every-imp}
 
 -- ---- the closure is the least closed set, also among the predicates
 
-pub closure-within : (Q : ℕ → Type 0) (rs : List Rule) (C : ℕ) → ((k : ℕ) → Member k C → Q k) → Every (λ r. ((k : ℕ) → Member k (r .positive) → Q k) → Q (r .head)) rs
+pub closure-within : (Q : ℕ → Type 0) (rs : List Rule) (C : ℕ) → ((k : ℕ) → Member k C → Q k)
+    → Every (λ r. ((k : ℕ) → Member k (r .positive) → Q k) → Q (r .head)) rs
     → (k : ℕ) → Member k (closure rs C) → Q k
 closure-within Q rs C hC h =
     closureBy-within applies Q rs C hC

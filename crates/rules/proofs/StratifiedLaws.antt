@@ -43,12 +43,14 @@ module _ (lev : ℕ → ℕ) (top : ℕ) where
   Agree i A B = (k : ℕ) → lev k < i → bit A k ≡ bit B k
 
   -- then they strike the same rules of the levels up to i
-  same-struck : (i A B : ℕ) → Agree i A B → (r : Rule) → Ranked lev top r → lev (r .head) ≤ i → disjoint (r .negated) A ≡ true → disjoint (r .negated) B ≡ true
+  same-struck : (i A B : ℕ) → Agree i A B → (r : Rule) → Ranked lev top r → lev (r .head) ≤ i
+      → disjoint (r .negated) A ≡ true → disjoint (r .negated) B ≡ true
   unfolding Agree
   same-struck i A B g r h l e =
       true-disjoint (r .negated) B (λ k m n. disjoint-true (r .negated) A e k m (g k (omega (arith, h .levelled .negated k m)) ∙ n))
 
-  -- what one derives at the levels up to i, the other does: each rule that A leaves keeps what is up to level i in X, if X is closed under what B leaves
+  -- what one derives at the levels up to i, the other does: each rule that A leaves keeps what is up to level i in X,
+  -- if X is closed under what B leaves
   left-keeps : (i A B X : ℕ) → Agree i A B → (rs : List Rule) → Every (Ranked lev top) rs → Respects X (reduct B rs)
       → Every (λ r. ((k : ℕ) → Member k (r .positive) → lev k ≤ i → Member k X) → lev (r .head) ≤ i → Member (r .head) X) (reduct A rs)
   unfolding reduct
@@ -76,7 +78,9 @@ module _ (lev : ℕ → ℕ) (top : ℕ) where
   agree-next : (C i A B : ℕ) → Agree i A B → (rs : List Rule) → Every (Ranked lev top) rs → Agree (suc i) (consequences rs C A) (consequences rs C B)
   unfolding Agree
   agree-next C i A B g rs h k l =
-      same-bit (consequences rs C A) (consequences rs C B) k (λ m. derives C i A B g rs h k m (omega arith)) (λ m. derives C i B A (λ j n. sym (g j n)) rs h k m (omega arith))
+      same-bit (consequences rs C A) (consequences rs C B) k
+      (λ m. derives C i A B g rs h k m (omega arith))
+      (λ m. derives C i B A (λ j n. sym (g j n)) rs h k m (omega arith))
 
   agree-times : (C A B : ℕ) (rs : List Rule) → Every (Ranked lev top) rs → (n : ℕ)
       → Agree n (times n (consequences rs C) A) (times n (consequences rs C) B)
@@ -116,6 +120,8 @@ module _ (lev : ℕ → ℕ) (top : ℕ) where
   one-stable C rs h =
       let Γ : ℕ → ℕ = consequences rs C in
       record {
-        stable = is-stable rs (heads-of rs h) C (times (suc top) Γ 0) (sym (times-out (suc top) Γ 0) ∙ times-in (suc top) Γ 0 ∙ settled C (Γ 0) 0 rs h);
+        stable =
+            is-stable rs (heads-of rs h) C (times (suc top) Γ 0)
+            (sym (times-out (suc top) Γ 0) ∙ times-in (suc top) Γ 0 ∙ settled C (Γ 0) 0 rs h);
         only = λ M s. sym (times-fixed (suc top) Γ M (stable-is rs (heads-of rs h) C M s)) ∙ settled C M 0 rs h;
       }

@@ -39,7 +39,8 @@ returns : tie.Need-returns
 returns c =
     let s = c .before .before .before .before in
     c .check-record .ensures
-    ∙ ap (λ (d : Record). recordRefusal d (s .args .k)) (c .before .read-record .ensures .0 ∙ part-read (now (s .args .policy)) (s .args .k) (s .pre .0))
+    ∙ ap (λ (d : Record). recordRefusal d (s .args .k))
+    (c .before .read-record .ensures .0 ∙ part-read (now (s .args .policy)) (s .args .k) (s .pre .0))
 
 pub check-at-spec : {M : Type 1} → statement M
 check-at-spec =
