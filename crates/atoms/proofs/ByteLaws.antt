@@ -2,13 +2,13 @@
 use mathlib.Core.Path.{_∙_, _≡_, refl}
 use mathlib.Core.List.{List, [], _∷_}
 use Prim.Native.Nat.{_*_, _+_, _<_, _^_, _≤_, suc, zero, ℕ}
-use lib.ListN.{drop, getD, length, take}
-use lib.Seq.{drop-drop, getD-drop, take-nil}
+use lib.ListN.{drop, drop-of-length-le, getD, length, take}
+use lib.Seq.{drop-drop, getD-drop}
 use mir.Syntax.{w8}
 use mir.Val.{Fits}
-use native.Mathlib.Nat.{add-zero, le-of-suc-le-suc, not-suc-le-zero}
+use native.Mathlib.Nat.{le-of-suc-le-suc, not-suc-le-zero}
 use native.Mathlib.Omega.{arith}
-use Rattle.atoms.specs.LittleEndian.{Bytes, littleEndian, wordAt}
+use Rattle.atoms.specs.LittleEndian.{Bytes, littleEndian, wordOf}
 
 -- what the checker knows of a slice of bytes: each element is one
 pub slice-bytes : (bs : List ℕ) → ((i : ℕ) → Fits w8 (getD bs i 0)) → Bytes bs
@@ -32,25 +32,27 @@ littleEndian-lt zero (b ∷ bs) h l = absurd (not-suc-le-zero l)
 littleEndian-lt (suc n) [] h l = omega (arith, littleEndian-lt n [] tt (omega arith))
 littleEndian-lt (suc n) (b ∷ bs) h l = omega (arith, littleEndian-lt n bs (h .1) (le-of-suc-le-suc l), h .0)
 
--- one byte more at the low end; a byte that is not there counts as 0
-low-byte : (n : ℕ) (bs : List ℕ) → littleEndian (take (suc n) bs) ≡ getD bs 0 0 + 256 * littleEndian (take n (drop 1 bs))
+-- the lowest byte, and the number of the others
+low-byte : (bs : List ℕ) → littleEndian bs ≡ getD bs 0 0 + 256 * littleEndian (drop 1 bs)
 unfolding littleEndian
-low-byte n [] = simp (take-nil {A = ℕ} n)
-low-byte n (b ∷ bs) = refl
+low-byte [] = refl
+low-byte (b ∷ bs) = refl
 
-low-byte-at : (bs : List ℕ) (n at next : ℕ) → next ≡ at + 1
-    → littleEndian (take (suc n) (drop at bs)) ≡ getD bs at 0 + 256 * littleEndian (take n (drop next bs))
-low-byte-at bs n at next e = low-byte n (drop at bs) ∙ rw (getD-drop at bs 0 0, drop-drop 1 at bs, e, add-zero)
+low-byte-at : (bs : List ℕ) (n : ℕ) → littleEndian (drop n bs) ≡ getD bs (n + 0) 0 + 256 * littleEndian (drop (n + 1) bs)
+low-byte-at bs n = low-byte (drop n bs) ∙ rw (getD-drop n bs 0 0, drop-drop 1 n bs)
 
-pub word-is : (bs : List ℕ) (at : ℕ) → littleEndian (take 8 (drop at bs)) ≡ wordAt bs at
+pub word-is : (bs : List ℕ) → length bs ≤ 8 → littleEndian bs ≡ wordOf bs
 unfolding littleEndian
-word-is bs at = rw (
-  low-byte-at bs 7 at (at + 1) refl,
-  low-byte-at bs 6 (at + 1) (at + 2) (omega arith),
-  low-byte-at bs 5 (at + 2) (at + 3) (omega arith),
-  low-byte-at bs 4 (at + 3) (at + 4) (omega arith),
-  low-byte-at bs 3 (at + 4) (at + 5) (omega arith),
-  low-byte-at bs 2 (at + 5) (at + 6) (omega arith),
-  low-byte-at bs 1 (at + 6) (at + 7) (omega arith),
-  low-byte-at bs 0 (at + 7) (at + 8) (omega arith),
-) (omega arith)
+word-is bs l =
+    let end : drop 8 bs ≡ [] = drop-of-length-le bs l in
+    rw (
+      low-byte bs,
+      low-byte-at bs 1,
+      low-byte-at bs 2,
+      low-byte-at bs 3,
+      low-byte-at bs 4,
+      low-byte-at bs 5,
+      low-byte-at bs 6,
+      low-byte-at bs 7,
+      end,
+    ) (omega arith)

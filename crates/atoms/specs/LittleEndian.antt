@@ -13,14 +13,14 @@ unfoldable pub littleEndian : List ℕ → ℕ
 littleEndian [] = 0
 littleEndian (b ∷ bs) = b + 256 * littleEndian bs
 
--- the number of the eight bytes from a place, written out as it is computed: `littleEndian (take 8 (drop at bytes))` (proofs/ByteLaws)
-abbrev pub wordAt : List ℕ → ℕ → ℕ
-wordAt bytes at =
-    getD bytes at 0
-    + 256 * (getD bytes (at + 1) 0
-    + 256 * (getD bytes (at + 2) 0
-    + 256 * (getD bytes (at + 3) 0
-    + 256 * (getD bytes (at + 4) 0
-    + 256 * (getD bytes (at + 5) 0
-    + 256 * (getD bytes (at + 6) 0
-    + 256 * getD bytes (at + 7) 0))))))
+-- the number of eight bytes, written out as it is computed: `littleEndian` of them (proofs/ByteLaws)
+abbrev pub wordOf : List ℕ → ℕ
+wordOf bytes =
+    getD bytes 0 0
+    + 256 * (getD bytes 1 0
+    + 256 * (getD bytes 2 0
+    + 256 * (getD bytes 3 0
+    + 256 * (getD bytes 4 0
+    + 256 * (getD bytes 5 0
+    + 256 * (getD bytes 6 0
+    + 256 * getD bytes 7 0))))))

@@ -1,16 +1,12 @@
 // Document 01's run-only cases: prints the answer to each.
 mod policies;
 mod print;
+mod singles;
 mod write;
 
 fn main() {
     policies::lengths();
-    policies::kinds();
-    policies::heads();
-    policies::access_bodies();
-    policies::disclosure_bodies();
+    singles::run();
     policies::pairs();
-    policies::levels();
-    policies::high_levels();
-    policies::order();
+    policies::records_in_turn();
 }

@@ -24,26 +24,17 @@ pub(crate) fn always_16() -> [u8; 2322]
 pub(crate) fn record(kind: u8, head: u8, positive: AtomSet, negated: AtomSet) -> [u8; 18]
     ensures { λ r. ⌜ length r ≡ 18 ⌝ }
 {
-    [
-        kind,
-        head,
-        byte(positive, 0),
-        byte(positive, 1),
-        byte(positive, 2),
-        byte(positive, 3),
-        byte(positive, 4),
-        byte(positive, 5),
-        byte(positive, 6),
-        byte(positive, 7),
-        byte(negated, 0),
-        byte(negated, 1),
-        byte(negated, 2),
-        byte(negated, 3),
-        byte(negated, 4),
-        byte(negated, 5),
-        byte(negated, 6),
-        byte(negated, 7),
-    ]
+    let mut bytes = [0u8; 18];
+    bytes[0] = kind;
+    bytes[1] = head;
+    let mut i: u8 = 0;
+    while i < 8 {
+        let at = i as usize;
+        bytes[at + 2] = byte(positive, i);
+        bytes[at + 10] = byte(negated, i);
+        i += 1;
+    }
+    bytes
 }
 
 // One of a set's eight bytes, the lowest first.

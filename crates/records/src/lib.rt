@@ -1,8 +1,8 @@
 // What a policy's bytes say: records and levels (document 01, "Atoms and records").
 ghost use mathlib.Core.Path.{_≡_};
-ghost use Prim.Native.Nat.{_+_, _<_, _≤_};
+ghost use Prim.Native.Nat.{_<_};
 ghost use lib.ListN.{length};
-ghost use Rattle.atoms.specs.LittleEndian.{wordAt};
+ghost use Rattle.atoms.specs.LittleEndian.{wordOf};
 ghost use Rattle.records.specs.Records.{readPart};
 ghost use Rattle.records.specs.Types.{recordOf};
 use atoms::AtomSet;
@@ -38,8 +38,8 @@ pub fn read_record(bytes: &[u8]) -> Record
     }
     let kind = bytes[0];
     let head = bytes[1];
-    let positive = word(bytes, 2);
-    let negated = word(bytes, 10);
+    let positive = word(&bytes[2..10]);
+    let negated = word(&bytes[10..18]);
     Record {
         kind,
         head,
@@ -48,19 +48,19 @@ pub fn read_record(bytes: &[u8]) -> Record
     }
 }
 
-// The little-endian number of the eight bytes from a place.
-fn word(bytes: &[u8], at: usize) -> u64
-    requires { ⌜ at + 8 ≤ length (now bytes) ⌝ }
-    ensures { λ r. ⌜ r ≡ wordAt (now (bytes .entry)) at ⌝ }
+// The little-endian number of eight bytes.
+fn word(bytes: &[u8]) -> u64
+    requires { ⌜ length (now bytes) ≡ 8 ⌝ }
+    ensures { λ r. ⌜ r ≡ wordOf (now (bytes .entry)) ⌝ }
 {
-    let mut number = wide(bytes[at + 7]);
-    number = wide(bytes[at + 6]) + 256 * number;
-    number = wide(bytes[at + 5]) + 256 * number;
-    number = wide(bytes[at + 4]) + 256 * number;
-    number = wide(bytes[at + 3]) + 256 * number;
-    number = wide(bytes[at + 2]) + 256 * number;
-    number = wide(bytes[at + 1]) + 256 * number;
-    wide(bytes[at]) + 256 * number
+    let mut number = wide(bytes[7]);
+    number = wide(bytes[6]) + 256 * number;
+    number = wide(bytes[5]) + 256 * number;
+    number = wide(bytes[4]) + 256 * number;
+    number = wide(bytes[3]) + 256 * number;
+    number = wide(bytes[2]) + 256 * number;
+    number = wide(bytes[1]) + 256 * number;
+    wide(bytes[0]) + 256 * number
 }
 
 // A byte, widened.
