@@ -1,15 +1,15 @@
 -- The closure is the least closed set, and a stable set is what its own reduct gives. Assumes nothing.
 use mathlib.Core.Path.{_≡_, subst}
-use mathlib.Core.Bool.{Bool, cond, false, true}
-use mathlib.Core.List.{List, [], _∷_}
+use mathlib.Core.List.{List}
 use Prim.Native.Nat.{ℕ}
-use Rattle.atoms.specs.Sets.{Member, disjoint}
+use Rattle.atoms.specs.Sets.{Member}
 use Rattle.atoms.proofs.SetLaws.{subset-antisym, subset-true, true-subset}
 use Rattle.rules.specs.Model.{applies, closure, consequences}
 use Rattle.rules.specs.Rules.{Every, Headed, Rule}
-use Rattle.rules.specs.Stable.{Closed, Least, Stable, positiveOnly, reduct}
+use Rattle.rules.specs.Stable.{Closed, Least, Stable, reduct}
 use Rattle.rules.proofs.ClosureLaws.{Keeps, closureBy-grows, closureBy-kept, closureBy-within}
 use Rattle.rules.proofs.ListLaws.{every-imp}
+use Rattle.rules.proofs.ReductLaws.{reduct-headed}
 
 -- ---- the closure is the least closed set, also among the predicates
 
@@ -33,16 +33,6 @@ least-unique : {P : ℕ → Type 0} {A B : ℕ} → Least P A → Least P B → 
 least-unique {A = A} {B = B} a b = subset-antisym (a .least B (b .one)) (b .least A (a .one))
 
 -- ---- a stable set is what its own reduct gives, and the other way round
-
-pub reduct-headed : (M : ℕ) (rs : List Rule) → Every Headed rs → Every Headed (reduct M rs)
-unfolding reduct
-reduct-headed M [] a = tt
-reduct-headed M (r ∷ rs) a = go (disjoint (r .negated) M) (reduct-headed M rs (a .1))
-  where
-    go : (b : Bool) → Every Headed (reduct M rs)
-        → Every Headed (cond b (positiveOnly r ∷ reduct M rs) (reduct M rs))
-    go true ih = (a .0, ih)
-    go false ih = ih
 
 pub stable-is : (rs : List Rule) → Every Headed rs → (C M : ℕ) → Stable rs C M → consequences rs C M ≡ M
 unfolding consequences

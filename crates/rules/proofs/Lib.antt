@@ -1,8 +1,8 @@
 -- The laws of passes, closures, reducts and models.
 pub mod ListLaws
 pub mod ClosureLaws
-pub mod LeastLaws
 pub mod ReductLaws
+pub mod LeastLaws
 pub mod StratifiedLaws
 pub mod LevelLaws
 pub mod TheoremsProof

@@ -6,7 +6,7 @@ use mathlib.Core.List.{List, [], _∷_}
 use Prim.Native.Nat.{ℕ}
 use Rattle.atoms.specs.Sets.{Member, Subset, disjoint, empty}
 use Rattle.atoms.proofs.SetLaws.{disjoint-true, empty-subset, none-in-empty, true-disjoint}
-use Rattle.rules.specs.Rules.{Every, Rule}
+use Rattle.rules.specs.Rules.{Every, Headed, Rule}
 use Rattle.rules.specs.Stable.{Stable, Unstruck, positiveOnly, reduct}
 use Rattle.rules.specs.Theorems.{BodyHolds}
 use Rattle.rules.proofs.ListLaws.{every-imp}
@@ -23,6 +23,9 @@ reduct-every M (r ∷ rs) P = go (disjoint (r .negated) M) refl (reduct-every M 
         → Every P (cond b (positiveOnly r ∷ reduct M rs) (reduct M rs)) ↔ (Left r × Every Left rs)
     go true e ih = (λ h. (λ _. h .0, ih .0 (h .1)), λ h. (h .0 (disjoint-true (r .negated) M e), ih .1 (h .1)))
     go false e ih = (λ h. (λ u. absurd (true≢false (sym (true-disjoint (r .negated) M u) ∙ e)), ih .0 h), λ h. ih .1 (h .1))
+
+pub reduct-headed : (M : ℕ) (rs : List Rule) → Every Headed rs → Every Headed (reduct M rs)
+reduct-headed M rs a = reduct-every M rs Headed .1 (every-imp Headed (λ r. Unstruck M r → Headed r) (λ r h _. h) rs a)
 
 pub stable-applied : (rs : List Rule) (C M : ℕ) → Stable rs C M → Every (λ r. BodyHolds M r → Member (r .head) M) rs
 stable-applied rs C M s =

@@ -11,8 +11,9 @@ use Rattle.rules.specs.Model.{closure, consequences, times}
 use Rattle.rules.specs.Rules.{Every, Headed, Levelled, Rule}
 use Rattle.rules.specs.Stable.{Closed, OneStable, positiveOnly, reduct}
 use Rattle.rules.proofs.ClosureLaws.{times-fixed}
-use Rattle.rules.proofs.LeastLaws.{closure-closed, closure-within, is-stable, reduct-headed, stable-is}
+use Rattle.rules.proofs.LeastLaws.{closure-closed, closure-within, is-stable, stable-is}
 use Rattle.rules.proofs.ListLaws.{every-imp}
+use Rattle.rules.proofs.ReductLaws.{reduct-headed}
 
 times-out : (n : ℕ) (f : ℕ → ℕ) (x : ℕ) → times (suc n) f x ≡ f (times n f x)
 unfolding times

@@ -1,8 +1,8 @@
 -- `records::read_record` meets its contract: each field is what its bytes say. Assumes nothing.
 use mathlib.Core.Path.{_∙_, _≡_, refl, sym}
 use mathlib.Core.List.{List}
-use Prim.Native.Nat.{_≤_, ℕ}
-use lib.ListN.{drop, length, length-take, take}
+use Prim.Native.Nat.{ℕ}
+use lib.ListN.{drop, length-take, take}
 use denote.Ref.{now}
 use borrow.Author.Needs.{needs}
 use borrow.Author.Tests.{le-leb, lt-leb}
