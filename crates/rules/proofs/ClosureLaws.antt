@@ -8,7 +8,7 @@ use lib.ListN.{length}
 use native.Mathlib.Nat.{add-le-add}
 use native.Mathlib.Omega.{arith}
 use Rattle.atoms.specs.Sets.{Member, Subset, bit, single, union}
-use Rattle.atoms.proofs.SetLaws.{bit-lt, member-single, single-own, subset-antisym, union-cases, union-left, union-right}
+use Rattle.atoms.proofs.SetLaws.{bit-lt, in-or-out, member-single, single-own, subset-antisym, union-cases, union-left, union-right}
 use Rattle.rules.specs.Model.{closureBy, times, passBy}
 use Rattle.rules.specs.Rules.{Every, Headed, Rule}
 
@@ -16,6 +16,15 @@ pub times-fixed : (n : ℕ) (f : ℕ → ℕ) (x : ℕ) → f x ≡ x → times 
 unfolding times
 times-fixed zero f x e = refl
 times-fixed (suc n) f x e = ap (times n f) e ∙ times-fixed n f x e
+
+pub times-out : (n : ℕ) (f : ℕ → ℕ) (x : ℕ) → times (suc n) f x ≡ f (times n f x)
+unfolding times
+times-out zero f x = refl
+times-out (suc n) f x = times-out n f (f x)
+
+pub times-in : (n : ℕ) (f : ℕ → ℕ) (x : ℕ) → times (suc n) f x ≡ times n f (f x)
+unfolding times
+times-in n f x = refl
 
 -- how many rules' heads are not in S: it falls with every pass that adds something
 lacking : List Rule → ℕ → ℕ
@@ -67,26 +76,34 @@ module _ (on : Rule → ℕ → Bool) where
           pick (inr i) = subst Q (sym (member-single (r .head) k i)) (hr S hS e)
       go false e k m = hS k m
 
-  -- from S to X: either the rule added nothing and is kept, or its head is new
-  abbrev Fired : Rule → ℕ → ℕ → Type 0
-  Fired r S X = ((X ≡ S) × (on r S ≡ true → Member (r .head) S)) ⊎ ((bit S (r .head) ≡ 0) × Member (r .head) X)
-
-  fire-news : (r : Rule) → Headed r → (S : ℕ) → Fired r S (fire r S)
+  -- either the rule adds nothing, or its head is new
+  fire-falls : (r : Rule) (S : ℕ) → (fire r S ≡ S) ⊎ ((bit S (r .head) ≡ 0) × Member (r .head) (fire r S))
   unfolding fire
-  fire-news r l S = go (on r S) refl (bit S (r .head)) refl
+  fire-falls r S = go (on r S)
     where
-      go : (b : Bool) → on r S ≡ b → (x : ℕ) → bit S (r .head) ≡ x → Fired r S (cond b (union S (single (r .head))) S)
-      go true e zero z = inr (z, union-right S (single (r .head)) (r .head) (single-own (r .head) l))
-      go true e (suc x) z =
-          let h : Member (r .head) S = omega (arith, bit-lt S (r .head)) in
-          inl (subset-antisym (λ k m. old k (union-cases S (single (r .head)) k m) h) (union-left S (single (r .head))), λ f. h)
-        where
-          old : (k : ℕ) → Member k S ⊎ Member k (single (r .head)) → Member (r .head) S → Member k S
-          old k (inl i) h = i
-          old k (inr i) h = subst (λ (j : ℕ). Member j S) (sym (member-single (r .head) k i)) h
-      go false e x z = inl (refl, λ f. absurd (true≢false (sym f ∙ e)))
+      h : ℕ
+      h = r .head
 
-  pass-grows : (rs : List Rule) (S : ℕ) → Subset S (passBy on rs S)
+      same : ((k : ℕ) → Member k (single h) → Member k S) → union S (single h) ≡ S
+      same f = subset-antisym (λ k m. pick k (union-cases S (single h) k m)) (union-left S (single h))
+        where
+          pick : (k : ℕ) → Member k S ⊎ Member k (single h) → Member k S
+          pick k (inl i) = i
+          pick k (inr i) = f k i
+
+      added : Member h S ⊎ (bit S h ≡ 0) → Member h (single h) ⊎ (bit (single h) h ≡ 0)
+          → (union S (single h) ≡ S) ⊎ ((bit S h ≡ 0) × Member h (union S (single h)))
+      added (inl i) _ = inl (same (λ k m. subst (λ (j : ℕ). Member j S) (sym (member-single h k m)) i))
+      added (inr z) (inl i) = inr (z, union-right S (single h) h i)
+      added (inr z) (inr n) = inl (same (λ k m. let own : Member h (single h) = subst (λ (j : ℕ). Member j (single h)) (member-single h k m) m in
+          absurd (omega arith)))
+
+      go : (b : Bool) → (cond b (union S (single h)) S ≡ S) ⊎ ((bit S h ≡ 0) × Member h (cond b (union S (single h)) S))
+      go true = added (in-or-out S h) (in-or-out (single h) h)
+      go false = inl refl
+
+  -- passes are inflationary
+  pub pass-grows : (rs : List Rule) (S : ℕ) → Subset S (passBy on rs S)
   unfolding passBy fire
   pass-grows [] S k m = m
   pass-grows (r ∷ rs) S k m = pass-grows rs (fire r S) k (fire-grows r S k m)
@@ -97,13 +114,14 @@ module _ (on : Rule → ℕ → Bool) where
   pass-within Q [] S hS h = hS
   pass-within Q (r ∷ rs) S hS h = pass-within Q rs (fire r S) (fire-within Q r S hS (h .0)) (h .1)
 
-  abbrev KeptBy : ℕ → List Rule → Type 0
+  abbrev pub KeptBy : ℕ → List Rule → Type 0
   KeptBy S rs = Every (λ r. on r S ≡ true → Member (r .head) S) rs
 
-  pass-news : (rs : List Rule) → Every Headed rs → (S : ℕ) → ((passBy on rs S ≡ S) × KeptBy S rs) ⊎ (lacking rs (passBy on rs S) < lacking rs S)
+  -- a pass either adds nothing or leaves fewer heads lacking
+  pass-falls : (rs : List Rule) (S : ℕ) → (passBy on rs S ≡ S) ⊎ (lacking rs (passBy on rs S) < lacking rs S)
   unfolding passBy lacking fire
-  pass-news [] h S = inl (refl, tt)
-  pass-news (r ∷ rs) h S = go (fire-news r (h .0) S) (pass-news rs (h .1) S)
+  pass-falls [] S = inl refl
+  pass-falls (r ∷ rs) S = go (fire-falls r S) (pass-falls rs S)
     where
       X : ℕ
       X = passBy on rs (fire r S)
@@ -111,15 +129,29 @@ module _ (on : Rule → ℕ → Bool) where
       grows : Subset S X
       grows k m = pass-grows rs (fire r S) k (fire-grows r S k m)
 
-      go : Fired r S (fire r S) → ((passBy on rs S ≡ S) × KeptBy S rs) ⊎ (lacking rs (passBy on rs S) < lacking rs S)
-          → ((X ≡ S) × KeptBy S (r ∷ rs)) ⊎ (1 - bit X (r .head) + lacking rs X < 1 - bit S (r .head) + lacking rs S)
-      go (inl (e, k)) (inl (p, q)) = inl (ap (passBy on rs) e ∙ p, (k, q))
-      go (inl (e, k)) (inr l) =
+      go : (fire r S ≡ S) ⊎ ((bit S (r .head) ≡ 0) × Member (r .head) (fire r S))
+          → (passBy on rs S ≡ S) ⊎ (lacking rs (passBy on rs S) < lacking rs S)
+          → (X ≡ S) ⊎ (1 - bit X (r .head) + lacking rs X < 1 - bit S (r .head) + lacking rs S)
+      go (inl e) (inl p) = inl (ap (passBy on rs) e ∙ p)
+      go (inl e) (inr l) =
           let m : lacking rs X < lacking rs S = subst (λ (x : ℕ). lacking rs (passBy on rs x) < lacking rs S) (sym e) l in
           inr (omega (arith, lacks-falls S X (r .head) grows))
       go (inr (z, i)) d =
           let j : bit X (r .head) ≡ 1 = pass-grows rs (fire r S) (r .head) i in
           inr (omega (arith, lacking-falls rs S X grows))
+
+  -- a pass that adds nothing: the set is closed
+  pub idle-kept : (rs : List Rule) → Every Headed rs → (S : ℕ) → passBy on rs S ≡ S → KeptBy S rs
+  unfolding passBy fire
+  idle-kept [] h S e = tt
+  idle-kept (r ∷ rs) h S e = (λ f. subst (λ (x : ℕ). Member (r .head) x) same (own (on r S) f), idle-kept rs (h .1) S (sym (ap (passBy on rs) same) ∙ e))
+    where
+      same : fire r S ≡ S
+      same = subset-antisym (λ k m. subst (λ (x : ℕ). Member k x) e (pass-grows rs (fire r S) k m)) (fire-grows r S)
+
+      own : (b : Bool) → b ≡ true → Member (r .head) (cond b (union S (single (r .head))) S)
+      own true f = union-right S (single (r .head)) (r .head) (single-own (r .head) (h .0))
+      own false f = absurd (true≢false (sym f))
 
   times-grows : (n : ℕ) (rs : List Rule) (S : ℕ) → Subset S (times n (passBy on rs) S)
   unfolding times
@@ -132,21 +164,37 @@ module _ (on : Rule → ℕ → Bool) where
   times-within Q zero rs S hS h = hS
   times-within Q (suc n) rs S hS h = times-within Q n rs (passBy on rs S) (pass-within Q rs S hS h) h
 
-  none-lacking : (rs : List Rule) (S : ℕ) → lacking rs S ≤ 0 → KeptBy S rs
-  unfolding lacking
-  none-lacking [] S h = tt
-  none-lacking (r ∷ rs) S h = (λ f. omega (arith, bit-lt S (r .head)), none-lacking rs S (omega arith))
-
-  times-kept : (n : ℕ) (rs : List Rule) → Every Headed rs → (S : ℕ) → lacking rs S ≤ n → KeptBy (times n (passBy on rs) S) rs
+  -- as many passes as heads are lacking, and one more adds nothing
+  times-idle : (n : ℕ) (rs : List Rule) (S : ℕ) → lacking rs S ≤ n → passBy on rs (times n (passBy on rs) S) ≡ times n (passBy on rs) S
   unfolding times
-  times-kept zero rs a S h = none-lacking rs S h
-  times-kept (suc n) rs a S h = go (pass-news rs a S) (λ l. times-kept n rs a (passBy on rs S) l)
+  times-idle zero rs S h = go (pass-falls rs S)
     where
-      go : ((passBy on rs S ≡ S) × KeptBy S rs) ⊎ (lacking rs (passBy on rs S) < lacking rs S)
-          → (lacking rs (passBy on rs S) ≤ n → KeptBy (times n (passBy on rs) (passBy on rs S)) rs)
-          → KeptBy (times n (passBy on rs) (passBy on rs S)) rs
-      go (inl (e, k)) ih = subst (λ (x : ℕ). KeptBy x rs) (sym (ap (times n (passBy on rs)) e ∙ times-fixed n (passBy on rs) S e)) k
+      go : (passBy on rs S ≡ S) ⊎ (lacking rs (passBy on rs S) < lacking rs S) → passBy on rs S ≡ S
+      go (inl e) = e
+      go (inr l) = absurd (omega arith)
+  times-idle (suc n) rs S h = go (pass-falls rs S) (λ l. times-idle n rs (passBy on rs S) l)
+    where
+      go : (passBy on rs S ≡ S) ⊎ (lacking rs (passBy on rs S) < lacking rs S)
+          → (lacking rs (passBy on rs S) ≤ n → passBy on rs (times n (passBy on rs) (passBy on rs S)) ≡ times n (passBy on rs) (passBy on rs S))
+          → passBy on rs (times n (passBy on rs) (passBy on rs S)) ≡ times n (passBy on rs) (passBy on rs S)
+      go (inl e) ih = subst (λ (x : ℕ). passBy on rs x ≡ x) (sym (ap (times n (passBy on rs)) e ∙ times-fixed n (passBy on rs) S e)) e
       go (inr l) ih = ih (omega arith)
+
+  -- ---- what a loop over passes needs
+
+  closureBy-idle : (rs : List Rule) (C : ℕ) → passBy on rs (closureBy on rs C) ≡ closureBy on rs C
+  unfolding closureBy
+  closureBy-idle rs C = times-idle _ rs C (lacking-most rs C)
+
+  -- a pass does not change what is reached
+  pub closureBy-pass : (rs : List Rule) (S : ℕ) → closureBy on rs (passBy on rs S) ≡ closureBy on rs S
+  unfolding closureBy
+  closureBy-pass rs S = sym (times-in _ (passBy on rs) S) ∙ times-out _ (passBy on rs) S ∙ closureBy-idle rs S
+
+  -- it is reached with the first pass that adds nothing
+  pub closureBy-fixed : (rs : List Rule) (S : ℕ) → passBy on rs S ≡ S → closureBy on rs S ≡ S
+  unfolding closureBy
+  closureBy-fixed rs S e = times-fixed _ (passBy on rs) S e
 
   -- the three laws of a closure
   pub closureBy-grows : (rs : List Rule) (C : ℕ) → Subset C (closureBy on rs C)
@@ -154,8 +202,7 @@ module _ (on : Rule → ℕ → Bool) where
   closureBy-grows rs C = times-grows _ rs C
 
   pub closureBy-kept : (rs : List Rule) → Every Headed rs → (C : ℕ) → KeptBy (closureBy on rs C) rs
-  unfolding closureBy
-  closureBy-kept rs h C = times-kept _ rs h C (lacking-most rs C)
+  closureBy-kept rs h C = idle-kept rs h (closureBy on rs C) (closureBy-idle rs C)
 
   pub closureBy-within : (Q : ℕ → Type 0) (rs : List Rule) (C : ℕ) → ((k : ℕ) → Member k C → Q k) → Every (Keeps Q) rs
       → (k : ℕ) → Member k (closureBy on rs C) → Q k

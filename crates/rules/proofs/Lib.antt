@@ -5,4 +5,6 @@ pub mod ReductLaws
 pub mod LeastLaws
 pub mod StratifiedLaws
 pub mod LevelLaws
+pub mod LayoutLaws
+pub mod LevelByLevelLaws
 pub mod TheoremsProof

@@ -10,19 +10,10 @@ use Rattle.atoms.proofs.SetLaws.{disjoint-true, same-bit, true-disjoint}
 use Rattle.rules.specs.Model.{closure, consequences, times}
 use Rattle.rules.specs.Rules.{Every, Headed, Levelled, Rule}
 use Rattle.rules.specs.Stable.{Closed, OneStable, positiveOnly, reduct}
-use Rattle.rules.proofs.ClosureLaws.{times-fixed}
+use Rattle.rules.proofs.ClosureLaws.{times-fixed, times-in, times-out}
 use Rattle.rules.proofs.LeastLaws.{closure-closed, closure-within, is-stable, stable-is}
 use Rattle.rules.proofs.ListLaws.{every-imp}
 use Rattle.rules.proofs.ReductLaws.{reduct-headed}
-
-times-out : (n : ℕ) (f : ℕ → ℕ) (x : ℕ) → times (suc n) f x ≡ f (times n f x)
-unfolding times
-times-out zero f x = refl
-times-out (suc n) f x = times-out n f (f x)
-
-times-in : (n : ℕ) (f : ℕ → ℕ) (x : ℕ) → times (suc n) f x ≡ times n f (f x)
-unfolding times
-times-in n f x = refl
 
 -- S is closed under rules
 abbrev Respects : ℕ → List Rule → Type 0

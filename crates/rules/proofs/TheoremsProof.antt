@@ -1,6 +1,10 @@
 -- The theorems of specs/Theorems. Assumes nothing.
+use Rattle.rules.specs.Model.{applies}
 use Rattle.rules.specs.Theorems.{Theorems}
+use Rattle.rules.proofs.ClosureLaws.{closureBy-fixed, closureBy-pass, pass-grows}
+use Rattle.rules.proofs.LayoutLaws.{in-ofLevel, same-stable}
 use Rattle.rules.proofs.LeastLaws.{closure-least}
+use Rattle.rules.proofs.LevelByLevelLaws.{level-by-level}
 use Rattle.rules.proofs.LevelLaws.{one-stable-any}
 use Rattle.rules.proofs.ReductLaws.{empty-body, reduct-every, stable-applied, two-sided}
 
@@ -12,4 +16,10 @@ theorems = record {
   empty-body = empty-body;
   closures = closure-least;
   models = one-stable-any;
+  orders = same-stable;
+  of-level = in-ofLevel;
+  levels = level-by-level;
+  inflationary = pass-grows applies;
+  passes = closureBy-pass applies;
+  idle = closureBy-fixed applies;
 }

@@ -2,4 +2,5 @@
 pub mod Rules
 pub mod Stable
 pub mod Model
+pub mod LevelByLevel
 pub mod Theorems

@@ -2,9 +2,10 @@
 use mathlib.Core.Path.{_≡_}
 use mathlib.Core.Logic.{_↔_}
 use mathlib.Core.List.{List}
-use Prim.Native.Nat.{ℕ}
+use Prim.Native.Nat.{_<_, ℕ}
 use Rattle.atoms.specs.Sets.{Member, Subset, empty}
-use Rattle.rules.specs.Model.{closure, model}
+use Rattle.rules.specs.LevelByLevel.{In, SameRules, byLevel, levelByLevel, ofLevel}
+use Rattle.rules.specs.Model.{applies, closure, model, passBy}
 use Rattle.rules.specs.Rules.{Every, Headed, Rule, Stratified}
 use Rattle.rules.specs.Stable.{Closed, Least, OneStable, Stable, Unstruck, reduct}
 
@@ -27,3 +28,14 @@ pub record Theorems : Type 1 where
   pub closures : (rs : List Rule) → Every Headed rs → (C : ℕ) → Least (Closed rs C) (closure rs C)
   -- "just one stable set exists; that is the model", where the rules keep levels, whatever these are
   pub models : (lev : ℕ → ℕ) (rs : List Rule) → Every (Stratified lev) rs → (C : ℕ) → OneStable rs C (model rs C)
+  -- "The same record may come twice.": the order of rules and their repetition do not change what is stable
+  pub orders : (rs qs : List Rule) → SameRules rs qs → (C M : ℕ) → Stable rs C M → Stable qs C M
+  -- the rules of level l are those of the list on that level, and no others
+  pub of-level : (lev : ℕ → ℕ) (l : ℕ) (rs : List Rule) (r : Rule) → In r (ofLevel lev l rs) ↔ (In r rs × (lev (r .head) ≡ l))
+  -- one level after another gives the model, where all heads are on the levels below n
+  pub levels : (lev : ℕ → ℕ) (rs : List Rule) → Every (Stratified lev) rs → (C n : ℕ) → Every (λ r. lev (r .head) < n) rs
+      → levelByLevel (byLevel lev 0 n rs) C ≡ model rs C
+  -- a pass only adds; a pass does not change what is reached; and with the first pass that adds nothing it is reached
+  pub inflationary : (rs : List Rule) (S : ℕ) → Subset S (passBy applies rs S)
+  pub passes : (rs : List Rule) (S : ℕ) → closure rs (passBy applies rs S) ≡ closure rs S
+  pub idle : (rs : List Rule) (S : ℕ) → passBy applies rs S ≡ S → closure rs S ≡ S
