@@ -5,7 +5,7 @@ use Prim.Native.Nat.{_%_, _+_, _/_, _<_, _^_, _≤_, suc, zero, ℕ}
 use lib.Arith.{lt-one}
 use lib.Count.{ones as countOnes, ones-step, onesIn}
 use lib.Pow.{pow-pos, shr-shr}
-use native.Mathlib.Nat.{add-le-add, div-lt-iff-lt-mul, le-of-suc-le-suc, not-suc-le-zero, one-mul, zero-lt-suc}
+use native.Mathlib.Nat.{add-le-add, div-lt-iff-lt-mul, eq-or-lt-of-le, le-of-suc-le-suc, not-suc-le-zero, one-mul, zero-lt-suc}
 use native.Mathlib.Omega.{arith}
 use Rattle.atoms.specs.Sets.{Member, Subset, bit, size}
 use Rattle.atoms.proofs.SetLaws.{bit-empty, bit-first, bit-next, ext, in-or-out, member-low, not-in, subset-antisym}
@@ -40,6 +40,15 @@ onesIn-lt (suc d) a b (suc k) l f m z =
 pub size-le : (a b : ℕ) → Subset a b → size a ≤ size b
 unfolding size
 size-le a b f = onesIn-le 64 a b f
+
+onesIn-most : (d a : ℕ) → onesIn d a ≤ d
+unfolding onesIn
+onesIn-most zero a = omega arith
+onesIn-most (suc d) a = omega (arith, onesIn-most d (a / 2))
+
+pub size-most : (a : ℕ) → size a ≤ 64
+unfolding size
+size-most a = onesIn-most 64 a
 
 -- b has an atom more than a
 size-lt : (a b k : ℕ) → k < 64 → Subset a b → Member k b → bit a k ≡ 0 → size a < size b
@@ -79,3 +88,11 @@ low-lt s n f = lt-of-div (ext (λ j. ap (λ (x : ℕ). x % 2) (shr-shr s n j) �
     lt-of-div e =
         subst (λ (x : ℕ). s < x) (one-mul (2 ^ n))
         (div-lt-iff-lt-mul (pow-pos n) .0 (subst (λ (x : ℕ). x < 1) (sym e) (zero-lt-suc 0)))
+
+-- a set that holds another and is not the same has more atoms
+pub size-more : (a b : ℕ) → b < 2 ^ 64 → Subset a b → (a ≡ b → ⊥) → size a < size b
+size-more a b h f n = go (eq-or-lt-of-le (size-le a b f))
+  where
+    go : (size a ≡ size b) ⊎ (size a < size b) → size a < size b
+    go (inl e) = absurd (n (size-same a b h f (omega arith)))
+    go (inr l) = l

@@ -1,6 +1,6 @@
 // Atoms and sets of atoms (document 01, "Atoms and records").
 ghost use mathlib.Core.Path.{_≡_};
-ghost use Rattle.atoms.specs.Sets.{difference, intersection, member, single, size, subset, union};
+ghost use Rattle.atoms.specs.Sets.{difference, disjoint, intersection, member, single, size, subset, union};
 
 // Atoms 0 to 15 are credentials, 16 to 62 derived.
 pub const LAST_CREDENTIAL: u8 = 15;
@@ -56,6 +56,13 @@ impl AtomSet {
         ensures { λ r. ⌜ r ≡ subset (self .bits) (other .bits) ⌝ }
     {
         self.bits & other.bits == self.bits
+    }
+
+    // The two sets share no atom.
+    pub fn is_disjoint(self, other: AtomSet) -> bool
+        ensures { λ r. ⌜ r ≡ disjoint (self .bits) (other .bits) ⌝ }
+    {
+        self.bits & other.bits == 0
     }
 
     // No atom above 63 is in a set.

@@ -7,4 +7,5 @@ pub mod StratifiedLaws
 pub mod LevelLaws
 pub mod LayoutLaws
 pub mod LevelByLevelLaws
+pub mod LoopLaws
 pub mod TheoremsProof

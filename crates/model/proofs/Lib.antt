@@ -1,0 +1,2 @@
+-- The laws behind the loops, and the theorems.
+pub mod ArrayLaws

@@ -1,0 +1,2 @@
+-- The model and the disclosable set of a policy, in the order of reading.
+pub mod Arrays

@@ -1,0 +1,77 @@
+-- What a program's loops need. A pass goes rule by rule, and only adds; it does not change what is reached, and what is reached is reached with the
+-- first pass that adds nothing. Levels are taken one by one. Assumes nothing.
+use mathlib.Core.Path.{_∙_, _≡_, ap, refl, subst, sym}
+use mathlib.Core.Bool.{Bool, _&&_, cond, false, true}
+use mathlib.Core.List.{List, [], _∷_}
+use Prim.Native.Nat.{_-_, _<_, _^_, ℕ}
+use native.Mathlib.Omega.{arith}
+use Rattle.atoms.specs.Sets.{Subset, disjoint, single, size, subset, union}
+use Rattle.atoms.proofs.SizeLaws.{size-more, size-most}
+use Rattle.rules.specs.LevelByLevel.{levelByLevel, passOver, settle}
+use Rattle.rules.specs.Model.{applies, closure, consequences, passBy}
+use Rattle.rules.specs.Rules.{Rule}
+use Rattle.rules.specs.Stable.{positiveOnly, reduct}
+use Rattle.rules.proofs.ClosureLaws.{closureBy-fixed, closureBy-pass, pass-grows}
+
+-- ---- one pass
+
+pub pass-none : (B S : ℕ) → passOver B [] S ≡ S
+unfolding passOver reduct passBy
+pass-none B S = refl
+
+-- one rule adds its head where its body holds
+pub pass-one : (B : ℕ) (r : Rule) (S : ℕ)
+    → passOver B (r ∷ []) S ≡ cond (disjoint (r .negated) B && subset (r .positive) S) (union S (single (r .head))) S
+unfolding passOver reduct passBy
+pass-one B r S = go (disjoint (r .negated) B)
+  where
+    go : (b : Bool) → passBy applies (cond b (positiveOnly r ∷ []) []) S ≡ cond (b && subset (r .positive) S) (union S (single (r .head))) S
+    go true = refl
+    go false = refl
+
+-- one rule, then the others
+pub pass-next : (B : ℕ) (r : Rule) (rs : List Rule) (S : ℕ) → passOver B (r ∷ rs) S ≡ passOver B rs (passOver B (r ∷ []) S)
+unfolding passOver reduct passBy
+pass-next B r rs S = go (disjoint (r .negated) B)
+  where
+    go : (b : Bool) → passBy applies (cond b (positiveOnly r ∷ reduct B rs) (reduct B rs)) S
+        ≡ passBy applies (reduct B rs) (passBy applies (cond b (positiveOnly r ∷ []) []) S)
+    go true = refl
+    go false = refl
+
+-- ---- passes
+
+-- what passes over the rules that B leaves reach from S
+pub reached : ℕ → List Rule → ℕ → ℕ
+reached B rs S = closure (reduct B rs) S
+
+-- N is S after one more pass over the rules that B leaves, and S is on the way from B
+
+module _ (B : ℕ) (rs : List Rule) (S N : ℕ) (pass : N ≡ passOver B rs S) where
+  -- it only adds, so that the atoms outside become fewer
+  pub pass-adds : N < 2 ^ 64 → (N ≡ S → ⊥) → 64 - size N < 64 - size S
+  unfolding passOver
+  pass-adds l n =
+      let grown : Subset S N = subst (Subset S) (sym pass) (pass-grows applies (reduct B rs) S) in
+      let more : size S < size N = size-more S N l grown (λ e. n (sym e)) in
+      omega (arith, size-most N)
+
+  -- it does not change what is reached
+  pub pass-again : reached B rs S ≡ reached B rs B → reached B rs N ≡ reached B rs B
+  unfolding passOver reached
+  pass-again e = ap (closure (reduct B rs)) pass ∙ closureBy-pass applies (reduct B rs) S ∙ e
+
+  -- where it adds nothing, all is reached
+  pub pass-idle : reached B rs S ≡ reached B rs B → N ≡ S → S ≡ settle rs B
+  unfolding passOver reached settle consequences
+  pass-idle e n = sym (sym e ∙ closureBy-fixed applies (reduct B rs) S (sym pass ∙ n))
+
+-- ---- levels
+
+pub levels-none : (S : ℕ) → levelByLevel [] S ≡ S
+unfolding levelByLevel
+levels-none S = refl
+
+pub levels-next : (rs : List Rule) (levels : List (List Rule)) (S : ℕ) → levelByLevel (rs ∷ levels) S ≡ levelByLevel levels (settle rs S)
+unfolding levelByLevel
+levels-next rs levels S = refl
