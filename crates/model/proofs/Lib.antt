@@ -1,2 +1,3 @@
 -- The laws behind the loops, and the theorems.
 pub mod ArrayLaws
+pub mod ListedLaws

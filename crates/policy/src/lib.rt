@@ -7,7 +7,7 @@ ghost use Rattle.policy.specs.PolicyTest.{policyRefusal, recordRefusal, 
 ghost use Rattle.policy.specs.Theorems.{Tested};
 ghost use Rattle.policy.specs.Types.{checkedOf};
 use form::check_record;
-use records::read_record;
+use records::record_at;
 use refusal::Refusal;
 
 mod form;
@@ -62,7 +62,7 @@ fn check_at(policy: &[u8], k: usize) -> Checked
     requires { ⌜ (18 * k + 18 ≤ length (now policy)) × (k < 128) ⌝ }
     ensures { λ r. ⌜ checkedOf r ≡ recordRefusal (recordAt (now (policy .entry)) k) k ⌝ }
 {
-    let parsed = read_record(&policy[18 * k..18 * k + 18]);
+    let parsed = record_at(policy, k);
     let number = k as u8;
     check_record(parsed, number)
 }

@@ -1,9 +1,9 @@
 // What a policy's bytes say: records and levels (document 01, "Atoms and records").
 ghost use mathlib.Core.Path.{_≡_};
-ghost use Prim.Native.Nat.{_<_};
+ghost use Prim.Native.Nat.{_*_, _+_, _<_, _≤_};
 ghost use lib.ListN.{length};
 ghost use Rattle.atoms.specs.LittleEndian.{wordOf};
-ghost use Rattle.records.specs.Records.{readPart};
+ghost use Rattle.records.specs.Records.{readPart, recordAt};
 ghost use Rattle.records.specs.Types.{recordOf};
 use atoms::AtomSet;
 
@@ -21,6 +21,14 @@ pub struct Record {
     pub positive: AtomSet,
     // The atoms that must not.
     pub negated: AtomSet,
+}
+
+// Record k of a policy that has it.
+pub fn record_at(policy: &[u8], k: usize) -> Record
+    requires { ⌜ 18 * k + 18 ≤ length (now policy) ⌝ }
+    ensures { λ r. ⌜ recordOf r ≡ recordAt (now (policy .entry)) k ⌝ }
+{
+    read_record(&policy[18 * k..18 * k + 18])
 }
 
 // The record that the first 18 bytes say; of fewer bytes a blank one, whose kind is 0.

@@ -1,0 +1,1 @@
+-- The theorems of the model and the disclosable set. Assumes nothing.

@@ -1,0 +1,24 @@
+-- Document 01, "The model": what a set of credentials unlocks. Assumes nothing.
+use mathlib.Core.Bool.{Bool, _&&_, not}
+use mathlib.Core.List.{List}
+use Prim.Native.Nat.{ℕ}
+use Rattle.atoms.specs.Atoms.{violation}
+use Rattle.atoms.specs.Sets.{Member, member}
+use Rattle.rules.specs.Model.{model}
+use Rattle.rules.specs.Rules.{Rule}
+use Rattle.rules.specs.Stable.{Stable}
+
+-- "C unlocks service r if r is in the model and 63 is not.", where the model is the stable set of the access rules
+pub record Unlocks (access : List Rule) (r C : ℕ) : Type 0 where
+  pub set : ℕ
+  pub stable : Stable access C set
+  pub service : Member r set
+  pub no-violation : Member violation set → ⊥
+
+-- the same of a set that is the model
+abbrev pub grants : ℕ → ℕ → Bool
+grants r M = member r M && not (member violation M)
+
+-- and computed
+unfoldable pub unlocks : List Rule → ℕ → ℕ → Bool
+unlocks access r C = grants r (model access C)
