@@ -1,3 +1,5 @@
 -- The laws behind the loops, and the theorems.
 pub mod ArrayLaws
 pub mod ListedLaws
+pub mod CountLaws
+pub mod LayoutLaws
