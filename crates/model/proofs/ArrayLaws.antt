@@ -1,14 +1,15 @@
 -- Rules in arrays, one place at a time. Assumes nothing.
-use mathlib.Core.Path.{_∙_, _≡_, ap, ap₂, refl, sym}
+use mathlib.Core.Path.{_∙_, _≡_, ap, ap₂, refl, subst, sym}
 use mathlib.Core.Logic.{_⊎_, _≢_, inl, inr}
 use mathlib.Core.List.{List, [], _++_, _∷_}
 use Prim.Native.Nat.{_+_, _-_, _<_, _≤_, suc, zero, ℕ}
 use lib.ListN.{getD, length, set}
 use lib.Seq.{getD-set-other, getD-set-same}
+use native.Mathlib.Nat.{eq-or-lt-of-le}
 use native.Mathlib.Numerals.{add-one}
 use native.Mathlib.Omega.{arith}
 use Rattle.rules.specs.LevelByLevel.{levelByLevel, passOver, settle}
-use Rattle.rules.specs.Rules.{Rule}
+use Rattle.rules.specs.Rules.{Every, Rule}
 use Rattle.rules.proofs.LoopLaws.{levels-next, levels-none, pass-next, pass-none}
 use Rattle.model.specs.Arrays.{levelsIn, ruleAt, rulesIn}
 
@@ -18,6 +19,16 @@ unfolding rulesIn
 rules-same h p n h′ p′ n′ zero k f = refl
 rules-same h p n h′ p′ n′ (suc m) k f =
     ap₂ (λ (r : Rule) (rs : List Rule). r ∷ rs) (f k (omega arith) (omega arith)) (rules-same h p n h′ p′ n′ m (suc k) (λ i a b. f i (omega arith) (omega arith)))
+
+-- what holds of all of them holds at each place
+pub rules-every : (P : Rule → Type 0) (h p n : List ℕ) (m k : ℕ) → Every P (rulesIn h p n k m) → (i : ℕ) → k ≤ i → i < k + m → P (ruleAt h p n i)
+unfolding rulesIn
+rules-every P h p n zero k e i a b = absurd (omega arith)
+rules-every P h p n (suc m) k e i a b = go (eq-or-lt-of-le a) (λ l. rules-every P h p n m (suc k) (e .1) i l (omega arith))
+  where
+    go : (k ≡ i) ⊎ (k < i) → (k < i → P (ruleAt h p n i)) → P (ruleAt h p n i)
+    go (inl x) ih = subst (λ (j : ℕ). P (ruleAt h p n j)) x (e .0)
+    go (inr x) ih = ih x
 
 -- one place more
 rules-last : (h p n : List ℕ) (m k : ℕ) → rulesIn h p n k (suc m) ≡ rulesIn h p n k m ++ (ruleAt h p n (k + m) ∷ [])

@@ -8,6 +8,7 @@ use policy::check;
 use policy::refusal::Refusal;
 
 mod closure;
+mod layout;
 mod levels;
 mod listed;
 

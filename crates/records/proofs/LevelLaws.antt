@@ -31,3 +31,11 @@ level-lt a l = go (level-cases a)
 
 pub level-down : (a : ℕ) → a < violation → (8 * level a ≤ a) × (a < 8 * level a + 8)
 level-down a l = let e : level a ≡ a / 8 = level-other a (λ i. omega arith) in (omega arith, omega arith)
+
+-- the 64 atoms are on levels 0 to 8
+pub level-atom : (a : ℕ) → a ≤ violation → level a < 9
+level-atom a l = go (level-cases a)
+  where
+    go : ((a ≡ violation) × (level a ≡ 8)) ⊎ ((a ≡ violation → ⊥) × (level a ≡ a / 8)) → level a < 9
+    go (inl (_, e)) = omega arith
+    go (inr (_, e)) = omega arith

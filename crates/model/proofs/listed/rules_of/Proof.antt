@@ -60,12 +60,15 @@ loop-again c =
     let d = c .before .before .record-at in
     let fits = l .inv .1 .1 .0 in (
       omega arith,
-      (omega arith, (
-        (simp length-set (fits .0), (simp length-set (fits .1 .0), simp length-set (fits .1 .1))),
-        rw (c .after .ensures .0)
-            (listed-next (now (a .policy)) (a .kind) (l .k) _ (l .heads) (l .positive) (l .negated) (l .count) _ (l .inv .1 .1 .1)
-            (c .before .before .before .loop-test .taken) (recordOf (d .result)) (d .ensures) (omega arith) (omega arith) (omega arith)),
-      )),
+      (
+        omega arith,
+        (
+          (simp length-set (fits .0), (simp length-set (fits .1 .0), simp length-set (fits .1 .1))),
+          rw (c .after .ensures .0)
+              (listed-next (now (a .policy)) (a .kind) (l .k) _ (l .heads) (l .positive) (l .negated) (l .count) _ (l .inv .1 .1 .1)
+              (c .before .before .before .loop-test .taken) (recordOf (d .result)) (d .ensures) (omega arith) (omega arith) (omega arith)),
+        ),
+      ),
     )
 
 returns : tie.Need-returns Inv-loop μ-loop
