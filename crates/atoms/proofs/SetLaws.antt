@@ -128,6 +128,9 @@ none-in-empty k m = let z : bit 0 k ≡ 0 = bit-empty k in omega arith
 pub empty-subset : (a : ℕ) → Subset 0 a
 empty-subset a k m = absurd (none-in-empty k m)
 
+pub none-is-empty : (s : ℕ) → ((k : ℕ) → Member k s → ⊥) → s ≡ 0
+none-is-empty s h = subset-antisym (λ k m. absurd (h k m)) (empty-subset s)
+
 -- in the set, or not
 pub in-or-out : (s k : ℕ) → Member k s ⊎ (bit s k ≡ 0)
 in-or-out s k = go (bit s k) refl

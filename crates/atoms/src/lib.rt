@@ -28,6 +28,13 @@ impl AtomSet {
         AtomSet { bits }
     }
 
+    // A set of credentials, the low 16 bits.
+    pub fn credentials(set: u16) -> AtomSet
+        ensures { λ r. ⌜ r .bits ≡ set ⌝ }
+    {
+        AtomSet { bits: set as u64 }
+    }
+
     pub fn union(self, other: AtomSet) -> AtomSet
         ensures { λ r. ⌜ r .bits ≡ union (self .bits) (other .bits) ⌝ }
     {

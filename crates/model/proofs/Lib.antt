@@ -3,3 +3,7 @@ pub mod ArrayLaws
 pub mod ListedLaws
 pub mod CountLaws
 pub mod LayoutLaws
+pub mod DisclosureLaws
+pub mod AcceptedLaws
+pub mod TypeLaws
+pub mod TheoremsProof

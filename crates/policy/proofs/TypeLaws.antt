@@ -11,11 +11,11 @@ use Rattle.policy.specs.declared.Checked.the-variants.{Accepted, Refused
 use Rattle.policy.specs.declared.refusal.Refusal.{Refusal}
 use Rattle.policy.specs.declared.refusal.Refusal.the-variants.{Body, Head, Kind, Level, NotWhole, TooLong}
 
-refusalBack : W.Refusal → Refusal
+pub refusalBack : W.Refusal → Refusal
 refusalBack (W.at n k) =
     cond (eqb n 1) TooLong (cond (eqb n 2) (NotWhole k) (cond (eqb n 3) (Kind k) (cond (eqb n 4) (Head k) (cond (eqb n 5) (Body k) (Level k)))))
 
-refusal-back : (x : Refusal) → refusalBack (refusalOf x) ≡ x
+pub refusal-back : (x : Refusal) → refusalBack (refusalOf x) ≡ x
 unfolding refusalBack
 refusal-back TooLong = refl
 refusal-back (NotWhole k) = refl

@@ -29,7 +29,7 @@ closure-closed rs a C = record {
 pub closure-least : (rs : List Rule) → Every Headed rs → (C : ℕ) → Least (Closed rs C) (closure rs C)
 closure-least rs a C = record { one = closure-closed rs a C; least = λ X h. closure-within (λ k. Member k X) rs C (h .holds) (h .respects) }
 
-least-unique : {P : ℕ → Type 0} {A B : ℕ} → Least P A → Least P B → A ≡ B
+pub least-unique : {P : ℕ → Type 0} {A B : ℕ} → Least P A → Least P B → A ≡ B
 least-unique {A = A} {B = B} a b = subset-antisym (a .least B (b .one)) (b .least A (a .one))
 
 -- ---- a stable set is what its own reduct gives, and the other way round

@@ -5,13 +5,14 @@ use mathlib.Core.Bool.{Bool, _&&_, cond, false, true}
 use mathlib.Core.List.{List, [], _∷_}
 use Prim.Native.Nat.{_-_, _<_, _^_, ℕ}
 use native.Mathlib.Omega.{arith}
-use Rattle.atoms.specs.Sets.{Subset, disjoint, single, size, subset, union}
+use Rattle.atoms.specs.Sets.{Subset, disjoint, empty, single, size, subset, union}
 use Rattle.atoms.proofs.SizeLaws.{size-more, size-most}
 use Rattle.rules.specs.LevelByLevel.{levelByLevel, passOver, settle}
 use Rattle.rules.specs.Model.{applies, closure, consequences, passBy}
-use Rattle.rules.specs.Rules.{Rule}
+use Rattle.rules.specs.Rules.{Every, Rule}
 use Rattle.rules.specs.Stable.{positiveOnly, reduct}
 use Rattle.rules.proofs.ClosureLaws.{closureBy-fixed, closureBy-pass, pass-grows}
+use Rattle.rules.proofs.ReductLaws.{reduct-positive}
 
 -- ---- one pass
 
@@ -65,6 +66,11 @@ module _ (B : ℕ) (rs : List Rule) (S N : ℕ) (pass : N ≡ passOver B rs S) w
   pub pass-idle : reached B rs S ≡ reached B rs B → N ≡ S → S ≡ settle rs B
   unfolding passOver reached settle consequences
   pass-idle e n = sym (sym e ∙ closureBy-fixed applies (reduct B rs) S (sym pass ∙ n))
+
+-- of rules without negation the closure is reached
+pub settle-positive : (rs : List Rule) → Every (λ r. r .negated ≡ empty) rs → (S : ℕ) → settle rs S ≡ closure rs S
+unfolding settle consequences
+settle-positive rs h S = ap (λ (qs : List Rule). closure qs S) (reduct-positive S rs h)
 
 -- ---- levels
 

@@ -1,5 +1,5 @@
 -- What the reduct keeps, and which rules apply in a stable set. Assumes nothing.
-use mathlib.Core.Path.{_∙_, _≡_, refl, subst, sym}
+use mathlib.Core.Path.{_∙_, _≡_, ap₂, refl, subst, sym}
 use mathlib.Core.Logic.{_↔_}
 use mathlib.Core.Bool.{Bool, cond, false, true, true≢false}
 use mathlib.Core.List.{List, [], _∷_}
@@ -26,6 +26,19 @@ reduct-every M (r ∷ rs) P = go (disjoint (r .negated) M) refl (reduct-every M 
 
 pub reduct-headed : (M : ℕ) (rs : List Rule) → Every Headed rs → Every Headed (reduct M rs)
 reduct-headed M rs a = reduct-every M rs Headed .1 (every-imp Headed (λ r. Unstruck M r → Headed r) (λ r h _. h) rs a)
+
+-- of rules without negation nothing is struck or dropped
+pub reduct-positive : (M : ℕ) (rs : List Rule) → Every (λ r. r .negated ≡ empty) rs → reduct M rs ≡ rs
+unfolding reduct
+reduct-positive M [] h = refl
+reduct-positive M (r ∷ rs) h =
+    rw unstruck (ap₂ (λ (q : Rule) (qs : List Rule). q ∷ qs) same (reduct-positive M rs (h .1)))
+  where
+    unstruck : disjoint (r .negated) M ≡ true
+    unstruck = true-disjoint (r .negated) M (λ k m _. none-in-empty k (subst (Member k) (h .0) m))
+
+    same : positiveOnly r ≡ r
+    same = λ i. record { head = r .head; positive = r .positive; negated = sym (h .0) i }
 
 pub stable-applied : (rs : List Rule) (C M : ℕ) → Stable rs C M → Every (λ r. BodyHolds M r → Member (r .head) M) rs
 stable-applied rs C M s =
