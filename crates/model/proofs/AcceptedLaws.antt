@@ -10,7 +10,7 @@ use Rattle.atoms.specs.Atoms.{violation}
 use Rattle.atoms.specs.LittleEndian.{Bytes}
 use Rattle.atoms.specs.Sets.{Member, bit, empty, member}
 use Rattle.atoms.proofs.SetLaws.{none-is-empty}
-use Rattle.rules.specs.LevelByLevel.{In, levelByLevel}
+use Rattle.rules.specs.LevelByLevel.{In, levelByLevel, settle}
 use Rattle.rules.specs.Model.{model}
 use Rattle.rules.specs.Rules.{Every, Headed, Rule, Stratified}
 use Rattle.rules.specs.Stable.{Closed, Least, Stable}
@@ -18,6 +18,7 @@ use Rattle.rules.proofs.LayoutLaws.{every-in}
 use Rattle.rules.proofs.LeastLaws.{least-unique}
 use Rattle.rules.proofs.LevelByLevelLaws.{level-by-level}
 use Rattle.rules.proofs.ListLaws.{every-imp}
+use Rattle.rules.proofs.LoopLaws.{settle-positive}
 use Rattle.rules.proofs.ReductLaws.{empty-body, stable-applied}
 use Rattle.records.specs.Levels.{level}
 use Rattle.records.specs.Records.{accessKind, disclosureKind, rulesOf}
@@ -51,10 +52,15 @@ module _ (bytes : List ℕ) (b : Bytes bytes) (w : WellFormed bytes) where
   laid-model h p m s l C = ap (λ (ls : List (List Rule)). levelByLevel ls C) (l .levels) ∙ level-by-level level access (stratified bytes b w) C 9 access-levels
 
   -- no disclosure rule has a negated part
-  pub disclosure-positive : Every (λ r. r .negated ≡ empty) (rulesOf disclosureKind bytes)
+  disclosure-positive : Every (λ r. r .negated ≡ empty) (rulesOf disclosureKind bytes)
   disclosure-positive =
       every-imp DisclosureBody (λ r. r .negated ≡ empty) (λ r h. none-is-empty (r .negated) (h .1)) (rulesOf disclosureKind bytes)
       (disclosure-bodies bytes b w)
+
+  -- so that what passes over them settle on is the disclosable set
+  pub settled-disclosable : (qs : List Rule) → qs ≡ rulesOf disclosureKind bytes → (P : ℕ) → settle qs P ≡ disclosable (rulesOf disclosureKind bytes) P
+  unfolding disclosable
+  settled-disclosable qs e P = ap (λ (rs : List Rule). settle rs P) e ∙ settle-positive (rulesOf disclosureKind bytes) disclosure-positive P
 
   unlocks-iff : (r C : ℕ) → (unlocks access r C ≡ true) ↔ Unlocks access r C
   unfolding unlocks
@@ -121,6 +127,14 @@ gives bytes b Right S right only = go (policyRefusal bytes) (policy.theorems .te
       refusals = λ g. (λ e. let x : some f ≡ some g = cc in t .refuses g .0 x, λ h. let x = t .refuses g .1 h in cc);
       numbers = λ g e. let x : some f ≡ some g = cc in numbered (some f) n g x;
     }
+
+-- the two ways that an answer is given
+module _ (bytes : List ℕ) (S : ℕ) where
+  pub answers-set : policyRefusal bytes ≡ none → (X : ℕ) → X ≡ S → set X ≡ unlessRefused (policyRefusal bytes) S
+  answers-set e X x = ap set x ∙ ap (λ (o : Option Refusal). unlessRefused o S) (sym e)
+
+  pub answers-refused : (f : Refusal) → policyRefusal bytes ≡ some f → refused f ≡ unlessRefused (policyRefusal bytes) S
+  answers-refused f e = ap (λ (o : Option Refusal). unlessRefused o S) (sym e)
 
 pub gives-model : (bytes : List ℕ) → Bytes bytes → (C : ℕ) → GivesModel bytes C (modelAnswer bytes C)
 unfolding modelAnswer

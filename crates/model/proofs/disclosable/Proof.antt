@@ -1,42 +1,48 @@
+-- `model::disclosable` meets its contract: by the two answers of the policy's test. Assumes nothing.
+use mathlib.Core.Path.{_∙_, _≡_, ap, refl, subst, sym}
+use denote.Ref.{now}
 use borrow.Author.Needs.{needs}
+use Rattle.atoms.proofs.ByteLaws.{slice-bytes}
+use Rattle.policy.specs.Types.{checkedOf, refusalOf}
+use Rattle.model.specs.Answers.{Answer, disclosableAnswer, refused, set}
+use Rattle.model.specs.Theorems.{GivesDisclosable}
+use Rattle.model.proofs.AcceptedLaws.{answers-refused, answers-set, gives-disclosable}
 use Rattle.model.proofs.disclosable.Statement.{statement}
 use Rattle.model.proofs.disclosable.Tie as tie
-use Rattle.model.proofs.disclosable.Reads as reads
-use Rattle.model.proofs.disclosable.Lts as lts
-use Rattle.model.proofs.disclosable_of.Reads as disclosable-of-reads
-use Rattle.policy.proofs.check.Reads as check-reads
 
--- src/lib.rt:56:9
+-- the defined answer has its meaning, and the bytes are as they were
+answered : (c : tie.After-shared-slice-known) (a : Answer) → (let bytes = now (c .before .args .policy) in
+    a ≡ disclosableAnswer bytes (c .before .args .shown) → (a ≡ disclosableAnswer bytes (c .before .args .shown)) × (GivesDisclosable bytes (c .before .args .shown) a × (bytes ≡ bytes)))
+answered c a e =
+    let bytes = now (c .before .args .policy) in
+    let P = c .before .args .shown in
+    (e, (subst (GivesDisclosable bytes P) (sym e) (gives-disclosable bytes (slice-bytes bytes (c .shared-slice-known .given)) P), refl))
+
 check-requires : tie.Need-check-requires
 check-requires c κs = search needs
 
--- src/lib.rt:57:26
 enum-known-checked : tie.Need-enum-known-checked
 enum-known-checked c = search needs
 
--- src/lib.rt:58:31
 enum-told : tie.Need-enum-told
 enum-told c = search needs
 
--- src/lib.rt:58:31
 disclosable-of-requires : tie.Need-disclosable-of-requires
-disclosable-of-requires c κs = ?
+disclosable-of-requires c κs = c .before .before .check .ensures .1 .0 .accepts .0 (ap checkedOf (c .enum-told .given .1))
 
--- src/lib.rt:58:9
 returns : tie.Need-returns
-returns c = ?
+unfolding disclosableAnswer
+returns c =
+    let k = c .before .before .before .before in
+    let accepted = sym (c .before .before .before .check .ensures .0) ∙ ap checkedOf (c .before .enum-told .given .1) in
+    answered k _ (answers-set (now (k .before .args .policy)) _ accepted _ (c .disclosable-of .ensures))
 
--- src/lib.rt:51:1
 returns-2 : tie.Need-returns-2
-returns-2 c = ?
+unfolding disclosableAnswer
+returns-2 c =
+    let k = c .before .before .before .before in
+    let refused = sym (c .before .before .before .check .ensures .0) ∙ ap checkedOf (c .before .checked .given .1) in
+    answered k _ (answers-refused (now (k .before .args .policy)) _ _ refused)
 
 pub disclosable-spec : {M : Type 1} → statement M
-disclosable-spec =
-    tie.close
-    (tie.spec
-    check-requires
-    enum-known-checked
-    enum-told
-    disclosable-of-requires
-    returns
-    returns-2)
+disclosable-spec = tie.close (tie.spec check-requires enum-known-checked enum-told disclosable-of-requires returns returns-2)

@@ -1,32 +1,51 @@
+-- `model::disclosable_of` meets its contract: what the disclosure rules settle on is the disclosable set. Assumes nothing.
+use mathlib.Core.Path.{_∙_, _≡_, ap, subst, sym}
+use Prim.Native.Nat.{_-_, _<_, _^_, ℕ}
+use denote.Ref.{now}
 use borrow.Author.Needs.{needs}
+use native.Mathlib.Omega.{arith}
+use Rattle.atoms.proofs.ByteLaws.{slice-bytes}
+use Rattle.records.specs.Records.{disclosureKind, rulesOf}
+use Rattle.policy.proofs.PolicyLaws.{disclosure-heads}
+use Rattle.model.specs.Arrays.{rulesIn}
+use Rattle.model.specs.Disclosure.{disclosable}
+use Rattle.model.proofs.AcceptedLaws.{settled-disclosable}
+use Rattle.model.proofs.DisclosureLaws.{disclosable-credentials}
 use Rattle.model.proofs.disclosable_of.Statement.{statement}
 use Rattle.model.proofs.disclosable_of.Tie as tie
-use Rattle.model.proofs.disclosable_of.Reads as reads
-use Rattle.model.proofs.disclosable_of.Lts as lts
-use Rattle.atoms.proofs.AtomSet.credentials.Reads as credentials-reads
-use Rattle.model.proofs.closure.close.Reads as close-reads
-use Rattle.model.proofs.listed.rules_of.Reads as rules-of-reads
 
--- src/lib.rt:84:17
 rules-of-requires : tie.Need-rules-of-requires
 rules-of-requires c κs = search needs
 
--- src/lib.rt:86:9
 credentials-requires : tie.Need-credentials-requires
 credentials-requires c κs = search needs
 
--- src/lib.rt:87:9
 close-requires : tie.Need-close-requires
 close-requires c κs = search needs
 
--- src/lib.rt:95:5
-cast-result : tie.Need-cast-result
-cast-result c = ?
+closed : (c : tie.After-struct-known) → (let a = c .before .before .before .before .before .before .before .before .before .args in
+    c .before .close .result .bits ≡ disclosable (rulesOf disclosureKind (now (a .policy))) (a .shown))
+closed c =
+    let k = c .before .before .before .before .before .before .before .before in
+    let bytes = now (k .before .args .policy) in
+    let rules = c .before .before .before .before .before .before .before .rules-of in
+    let all : rules .result .count - 0 ≡ rules .result .count = omega arith in
+    c .before .close .ensures
+    ∙ settled-disclosable bytes (slice-bytes bytes (k .shared-slice-known .given)) (k .before .pre) _
+    (ap (rulesIn (rules .result .heads) (rules .result .positive) (rules .result .negated) 0) all ∙ rules .ensures .0) _
+    ∙ ap (disclosable (rulesOf disclosureKind bytes)) (c .before .before .before .before .before .before .credentials .ensures)
 
--- src/lib.rt:80:1
+cast-result : tie.Need-cast-result
+cast-result c =
+    let k = c .before .before .before .before .before .before .before .before in
+    let bytes = now (k .before .args .policy) in
+    let fits : disclosable (rulesOf disclosureKind bytes) (k .before .args .shown) < 2 ^ 16
+    = disclosable-credentials (rulesOf disclosureKind bytes) (disclosure-heads bytes (slice-bytes bytes (k .shared-slice-known .given)) (k .before .pre))
+    (k .before .args .shown) (omega arith) in
+    omega (arith, closed c)
+
 returns : tie.Need-returns
-returns c = ?
+returns c = closed c
 
 pub disclosable-of-spec : {M : Type 1} → statement M
-disclosable-of-spec =
-    tie.close (tie.spec rules-of-requires credentials-requires close-requires cast-result returns)
+disclosable-of-spec = tie.close (tie.spec rules-of-requires credentials-requires close-requires cast-result returns)

@@ -1,36 +1,48 @@
+-- `model::model` meets its contract: by the two answers of the policy's test. Assumes nothing.
+use mathlib.Core.Path.{_∙_, _≡_, ap, refl, subst, sym}
+use denote.Ref.{now}
 use borrow.Author.Needs.{needs}
+use Rattle.atoms.proofs.ByteLaws.{slice-bytes}
+use Rattle.policy.specs.Types.{checkedOf, refusalOf}
+use Rattle.model.specs.Answers.{Answer, modelAnswer, refused, set}
+use Rattle.model.specs.Theorems.{GivesModel}
+use Rattle.model.proofs.AcceptedLaws.{answers-refused, answers-set, gives-model}
 use Rattle.model.proofs.model.Statement.{statement}
 use Rattle.model.proofs.model.Tie as tie
-use Rattle.model.proofs.model.Reads as reads
-use Rattle.model.proofs.model.Lts as lts
-use Rattle.model.proofs.model_of.Reads as model-of-reads
-use Rattle.policy.proofs.check.Reads as check-reads
 
--- src/lib.rt:43:9
+-- the defined answer has its meaning, and the bytes are as they were
+answered : (c : tie.After-shared-slice-known) (a : Answer) → (let bytes = now (c .before .args .policy) in
+    a ≡ modelAnswer bytes (c .before .args .credentials) → (a ≡ modelAnswer bytes (c .before .args .credentials)) × (GivesModel bytes (c .before .args .credentials) a × (bytes ≡ bytes)))
+answered c a e =
+    let bytes = now (c .before .args .policy) in
+    let P = c .before .args .credentials in
+    (e, (subst (GivesModel bytes P) (sym e) (gives-model bytes (slice-bytes bytes (c .shared-slice-known .given)) P), refl))
+
 check-requires : tie.Need-check-requires
 check-requires c κs = search needs
 
--- src/lib.rt:44:26
 enum-known-checked : tie.Need-enum-known-checked
 enum-known-checked c = search needs
 
--- src/lib.rt:45:32
 enum-told : tie.Need-enum-told
 enum-told c = search needs
 
--- src/lib.rt:45:32
 model-of-requires : tie.Need-model-of-requires
-model-of-requires c κs = ?
+model-of-requires c κs = c .before .before .check .ensures .1 .0 .accepts .0 (ap checkedOf (c .enum-told .given .1))
 
--- src/lib.rt:45:9
 returns : tie.Need-returns
-returns c = ?
+unfolding modelAnswer
+returns c =
+    let k = c .before .before .before .before in
+    let accepted = sym (c .before .before .before .check .ensures .0) ∙ ap checkedOf (c .before .enum-told .given .1) in
+    answered k _ (answers-set (now (k .before .args .policy)) _ accepted _ (c .model-of .ensures))
 
--- src/lib.rt:38:1
 returns-2 : tie.Need-returns-2
-returns-2 c = ?
+unfolding modelAnswer
+returns-2 c =
+    let k = c .before .before .before .before in
+    let refused = sym (c .before .before .before .check .ensures .0) ∙ ap checkedOf (c .before .checked .given .1) in
+    answered k _ (answers-refused (now (k .before .args .policy)) _ _ refused)
 
 pub model-spec : {M : Type 1} → statement M
-model-spec =
-    tie.close
-    (tie.spec check-requires enum-known-checked enum-told model-of-requires returns returns-2)
+model-spec = tie.close (tie.spec check-requires enum-known-checked enum-told model-of-requires returns returns-2)
