@@ -1,10 +1,11 @@
 -- The theorems that a customer reads, on one page; proofs/ClaimsProof has them all. What they leave to belief: that the definitions which state them
--- (Member, Closed, Least, Stable, WellFormed, PolicyRefused) and the maps from the program's types (specs/Types of records and policy) say what the
--- paper says. Assumes nothing.
+-- (Member, Closed, Least, Stable, Askable, WellFormed, PolicyRefused) and the maps from the program's types (specs/Types of records, policy and model)
+-- say what the paper says. Assumes nothing.
 use Rattle.atoms.specs.Meaning.{Meaning}
 use Rattle.rules.specs.Theorems as rules
 use Rattle.records.specs.Theorems as records
 use Rattle.policy.specs.Theorems as policy
+use Rattle.model.specs.Theorems as model
 use Rattle.demands.specs.Constants.{Constants}
 use Rattle.demands.specs.Marked.{Marked}
 
@@ -13,10 +14,12 @@ pub record Claims : Type 1 where
   pub constants : Constants
   -- sets of atoms as numbers: what each operation means
   pub sets : Meaning
-  -- the closure is the least closed set, and the model the one stable set
+  -- the closure is the least closed set, and the model the one stable set, also level by level
   pub models : rules.Theorems
   -- what a record's writer writes is what its reader reads
   pub encoding : records.Theorems
   -- demand 1, of the policy's test; and an accepted policy has one stable set over every set of credentials
   pub policies : policy.Theorems
+  -- the model and the disclosable set of a policy, or its refusal
+  pub answers : model.Theorems
   pub marked : Marked

@@ -2,7 +2,7 @@
 use mathlib.Core.List.{List, [], _++_, _∷_}
 use Prim.Native.Nat.{_%_, _/_, suc, zero, ℕ}
 use Rattle.atoms.specs.Sets.{empty, single, union}
-use Rattle.records.specs.Records.{Record, accessKind}
+use Rattle.records.specs.Records.{Record, accessKind, disclosureKind}
 
 -- the n lowest bytes of a number, the lowest first
 unfoldable pub bytesOf : ℕ → ℕ → List ℕ
@@ -28,3 +28,9 @@ infix 10 _if_not_
 unfoldable pub _if_not_ : ℕ → List ℕ → List ℕ → List ℕ
 h if positive not negated =
     writeRecord (record { kind = accessKind; rule = record { head = h; positive = setOf positive; negated = setOf negated } })
+
+-- a disclosure record: "disclosure 1 if 0" is `disclose 1 if (0 ∷ [])`, "disclosure 0 always" is `disclose 0 if []`
+infix 10 disclose_if_
+unfoldable pub disclose_if_ : ℕ → List ℕ → List ℕ
+disclose h if positive =
+    writeRecord (record { kind = disclosureKind; rule = record { head = h; positive = setOf positive; negated = empty } })
