@@ -1,7 +1,7 @@
 -- What holds of an accepted policy, and what is answered of any bytes. Assumes nothing.
-use mathlib.Core.Path.{_∙_, _≡_, ap, refl, subst, sym}
+use mathlib.Core.Path.{_∙_, _≡_, ap, ap₂, refl, subst, sym}
 use mathlib.Core.Logic.{_↔_}
-use mathlib.Core.Bool.{_&&_, not, true}
+use mathlib.Core.Bool.{not, true}
 use mathlib.Core.List.{List}
 use mathlib.Core.Option.{Option, none, some}
 use Prim.Native.Nat.{_<_, _≤_, ℕ}
@@ -51,16 +51,24 @@ module _ (bytes : List ℕ) (b : Bytes bytes) (w : WellFormed bytes) where
       → levelByLevel (levelsIn h p m s 0 9) C ≡ model (rulesOf accessKind bytes) C
   laid-model h p m s l C = ap (λ (ls : List (List Rule)). levelByLevel ls C) (l .levels) ∙ level-by-level level access (stratified bytes b w) C 9 access-levels
 
+  -- as a program comes by it: X from credentials S that are C
+  pub laid-model-at : (h p m s : List ℕ) → LaidOut (rulesOf accessKind bytes) h p m s → (S C X : ℕ) → S ≡ C
+      → X ≡ levelByLevel (levelsIn h p m s 0 9) S → X ≡ model (rulesOf accessKind bytes) C
+  laid-model-at h p m s l S C X e x = x ∙ laid-model h p m s l S ∙ ap (model access) e
+
   -- no disclosure rule has a negated part
   disclosure-positive : Every (λ r. r .negated ≡ empty) (rulesOf disclosureKind bytes)
   disclosure-positive =
       every-imp DisclosureBody (λ r. r .negated ≡ empty) (λ r h. none-is-empty (r .negated) (h .1)) (rulesOf disclosureKind bytes)
       (disclosure-bodies bytes b w)
 
-  -- so that what passes over them settle on is the disclosable set
-  pub settled-disclosable : (qs : List Rule) → qs ≡ rulesOf disclosureKind bytes → (P : ℕ) → settle qs P ≡ disclosable (rulesOf disclosureKind bytes) P
+  -- so that they settle on the disclosable set: X, from a shown set S that is P
+  pub settled-disclosable : (qs : List Rule) → qs ≡ rulesOf disclosureKind bytes → (S P X : ℕ) → S ≡ P → X ≡ settle qs S
+      → X ≡ disclosable (rulesOf disclosureKind bytes) P
   unfolding disclosable
-  settled-disclosable qs e P = ap (λ (rs : List Rule). settle rs P) e ∙ settle-positive (rulesOf disclosureKind bytes) disclosure-positive P
+  settled-disclosable qs q S P X e x =
+      let rs = rulesOf disclosureKind bytes in
+      x ∙ ap₂ settle q e ∙ settle-positive rs disclosure-positive P
 
   unlocks-iff : (r C : ℕ) → (unlocks access r C ≡ true) ↔ Unlocks access r C
   unfolding unlocks

@@ -8,7 +8,7 @@ use atoms::AtomSet;
 use atoms::VIOLATION;
 
 // Level by level: each is finished before the next one begins.
-pub fn evaluate<'a>(
+pub(crate) fn evaluate<'a>(
     heads: &'a [u8; 128],
     positive: &'a [u64; 128],
     negated: &'a [u64; 128],

@@ -8,7 +8,7 @@ ghost use Rattle.model.specs.Arrays.{rulesIn};
 use records::record_at;
 
 // The first `count` places hold the rules, in the order of their records.
-pub struct Listed {
+pub(crate) struct Listed {
     pub heads: [u8; 128],
     pub positive: [u64; 128],
     pub negated: [u64; 128],

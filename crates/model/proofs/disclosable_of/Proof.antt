@@ -1,6 +1,6 @@
 -- `model::disclosable_of` meets its contract: what the disclosure rules settle on is the disclosable set. Assumes nothing.
-use mathlib.Core.Path.{_∙_, _≡_, ap, subst, sym}
-use Prim.Native.Nat.{_-_, _<_, _^_, ℕ}
+use mathlib.Core.Path.{_∙_, _≡_, ap}
+use Prim.Native.Nat.{_-_, _<_, _^_}
 use denote.Ref.{now}
 use borrow.Author.Needs.{needs}
 use native.Mathlib.Omega.{arith}
@@ -30,10 +30,9 @@ closed c =
     let bytes = now (k .before .args .policy) in
     let rules = c .before .before .before .before .before .before .before .rules-of in
     let all : rules .result .count - 0 ≡ rules .result .count = omega arith in
-    c .before .close .ensures
-    ∙ settled-disclosable bytes (slice-bytes bytes (k .shared-slice-known .given)) (k .before .pre) _
-    (ap (rulesIn (rules .result .heads) (rules .result .positive) (rules .result .negated) 0) all ∙ rules .ensures .0) _
-    ∙ ap (disclosable (rulesOf disclosureKind bytes)) (c .before .before .before .before .before .before .credentials .ensures)
+    settled-disclosable bytes (slice-bytes bytes (k .shared-slice-known .given)) (k .before .pre) _
+    (ap (rulesIn (rules .result .heads) (rules .result .positive) (rules .result .negated) 0) all ∙ rules .ensures .0) _ _ _
+    (c .before .before .before .before .before .before .credentials .ensures) (c .before .close .ensures)
 
 cast-result : tie.Need-cast-result
 cast-result c =

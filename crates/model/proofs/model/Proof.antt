@@ -3,8 +3,8 @@ use mathlib.Core.Path.{_∙_, _≡_, ap, refl, subst, sym}
 use denote.Ref.{now}
 use borrow.Author.Needs.{needs}
 use Rattle.atoms.proofs.ByteLaws.{slice-bytes}
-use Rattle.policy.specs.Types.{checkedOf, refusalOf}
-use Rattle.model.specs.Answers.{Answer, modelAnswer, refused, set}
+use Rattle.policy.specs.Types.{checkedOf}
+use Rattle.model.specs.Answers.{Answer, modelAnswer}
 use Rattle.model.specs.Theorems.{GivesModel}
 use Rattle.model.proofs.AcceptedLaws.{answers-refused, answers-set, gives-model}
 use Rattle.model.proofs.model.Statement.{statement}

@@ -1,11 +1,8 @@
 -- `model::model_of` meets its contract: the rules laid out by level have the model. Assumes nothing.
-use mathlib.Core.Path.{_∙_, ap}
 use denote.Ref.{now}
 use borrow.Author.Needs.{needs}
 use Rattle.atoms.proofs.ByteLaws.{slice-bytes}
-use Rattle.rules.specs.Model.{model}
-use Rattle.records.specs.Records.{accessKind, rulesOf}
-use Rattle.model.proofs.AcceptedLaws.{laid-model}
+use Rattle.model.proofs.AcceptedLaws.{laid-model-at}
 use Rattle.model.proofs.model_of.Statement.{statement}
 use Rattle.model.proofs.model_of.Tie as tie
 
@@ -23,9 +20,9 @@ returns c =
     let k = c .before .before .before .before .before .before .before .before in
     let bytes = now (k .before .args .policy) in
     let rules = c .before .before .before .before .before .before .before .access-rules in
-    c .evaluate .ensures
-    ∙ laid-model bytes (slice-bytes bytes (k .shared-slice-known .given)) (k .before .pre) _ _ _ _ (rules .ensures) _
-    ∙ ap (model (rulesOf accessKind bytes)) (c .before .before .before .before .before .before .credentials .ensures)
+    laid-model-at bytes (slice-bytes bytes (k .shared-slice-known .given)) (k .before .pre) (rules .result .heads) (rules .result .positive)
+    (rules .result .negated) (rules .result .starts) (rules .ensures) _ _ _ (c .before .before .before .before .before .before .credentials .ensures)
+    (c .evaluate .ensures)
 
 pub model-of-spec : {M : Type 1} → statement M
 model-of-spec = tie.close (tie.spec access-rules-requires credentials-requires evaluate-requires returns)
