@@ -14,8 +14,8 @@ use Rattle.demands.specs.Marked.{Marked, policyA}
 
 pub marked : Marked
 unfolding _if_not_ disclose_if_ writeRecord bytesOf setOf littleEndian readRecord forAtoms accessLevels firstFailed recordRefusal recordsRefusal
-          policyRefusal orElse recordsFrom recordsOf ofKind rulesOf reduct times passBy closureBy consequences model disclosable unlocks modelAnswer
-          disclosableAnswer policyA
+    policyRefusal orElse recordsFrom recordsOf ofKind rulesOf reduct times passBy closureBy consequences model disclosable unlocks modelAnswer
+    disclosableAnswer policyA
 marked = record {
   example = refl;
   d = refl;

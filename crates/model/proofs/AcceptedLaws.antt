@@ -30,7 +30,7 @@ use Rattle.policy.proofs.DecideLaws.{Decides, decides-and, decides-eq, decides-
 use Rattle.policy.proofs.PolicyLaws.{disclosure-bodies, disclosure-heads, one-model, stratified}
 use Rattle.policy.proofs.TheoremsProof as policy
 use Rattle.model.specs.Answers.{disclosableAnswer, modelAnswer, refused, set, unlessRefused}
-use Rattle.model.specs.Arrays.{LaidOut, levelsIn}
+use Rattle.model.specs.Arrays.{LaidOut, evaluated}
 use Rattle.model.specs.Disclosure.{disclosable}
 use Rattle.model.specs.Theorems.{Accepted, Gives, GivesDisclosable, GivesModel}
 use Rattle.model.specs.Unlocking.{Unlocks, grants, unlocks}
@@ -48,12 +48,12 @@ module _ (bytes : List ℕ) (b : Bytes bytes) (w : WellFormed bytes) where
 
   -- the rules laid out by level have the model
   pub laid-model : (h p m s : List ℕ) → LaidOut (rulesOf accessKind bytes) h p m s → (C : ℕ)
-      → levelByLevel (levelsIn h p m s 0 9) C ≡ model (rulesOf accessKind bytes) C
+      → evaluated h p m s C ≡ model (rulesOf accessKind bytes) C
   laid-model h p m s l C = ap (λ (ls : List (List Rule)). levelByLevel ls C) (l .levels) ∙ level-by-level level access (stratified bytes b w) C 9 access-levels
 
   -- as a program comes by it: X from credentials S that are C
   pub laid-model-at : (h p m s : List ℕ) → LaidOut (rulesOf accessKind bytes) h p m s → (S C X : ℕ) → S ≡ C
-      → X ≡ levelByLevel (levelsIn h p m s 0 9) S → X ≡ model (rulesOf accessKind bytes) C
+      → X ≡ evaluated h p m s S → X ≡ model (rulesOf accessKind bytes) C
   laid-model-at h p m s l S C X e x = x ∙ laid-model h p m s l S ∙ ap (model access) e
 
   -- no disclosure rule has a negated part

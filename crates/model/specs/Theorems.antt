@@ -7,14 +7,14 @@ use Prim.Native.Nat.{_<_, _^_, _≤_, ℕ}
 use Rattle.atoms.specs.Atoms.{lastCredential}
 use Rattle.atoms.specs.LittleEndian.{Bytes}
 use Rattle.atoms.specs.Sets.{Member, Subset, empty}
-use Rattle.rules.specs.LevelByLevel.{In, levelByLevel}
+use Rattle.rules.specs.LevelByLevel.{In}
 use Rattle.rules.specs.Model.{model}
 use Rattle.rules.specs.Rules.{Rule}
 use Rattle.rules.specs.Stable.{Closed, Least, OneStable, Stable}
 use Rattle.records.specs.Records.{accessKind, disclosureKind, rulesOf}
 use Rattle.policy.specs.WrittenForm.{PolicyRefused, Refusal, WellFormed, refusalNumber}
 use Rattle.model.specs.Answers.{Answer, disclosableAnswer, modelAnswer, refused, set}
-use Rattle.model.specs.Arrays.{LaidOut, levelsIn}
+use Rattle.model.specs.Arrays.{LaidOut, evaluated}
 use Rattle.model.specs.Disclosure.{Askable, Disclosable, askable, disclosable}
 use Rattle.model.specs.Types.{disclosedOf, modelledOf}
 use Rattle.model.specs.Unlocking.{Unlocks, unlocks}
@@ -47,7 +47,7 @@ pub record Accepted (bytes : List ℕ) : Type 0 where
   pub unlocking : (r C : ℕ) → (unlocks (rulesOf accessKind bytes) r C ≡ true) ↔ Unlocks (rulesOf accessKind bytes) r C
   -- the rules in arrays, laid out by level, have the same model
   pub laid-out : (heads positive negated starts : List ℕ) → LaidOut (rulesOf accessKind bytes) heads positive negated starts → (C : ℕ)
-      → levelByLevel (levelsIn heads positive negated starts 0 9) C ≡ model (rulesOf accessKind bytes) C
+      → evaluated heads positive negated starts C ≡ model (rulesOf accessKind bytes) C
   -- "the least set that holds P and is closed under the disclosure rules"
   pub disclosable-iff : (P k : ℕ) → Member k (disclosable (rulesOf disclosureKind bytes) P) ↔ Disclosable (rulesOf disclosureKind bytes) P k
   -- "A credential is askable if it heads some disclosure rule."

@@ -1,7 +1,6 @@
 // The model from rules laid out by level.
 ghost use mathlib.Core.Path.{_≡_};
-ghost use Rattle.rules.specs.LevelByLevel.{levelByLevel};
-ghost use Rattle.model.specs.Arrays.{Ordered, levelsIn};
+ghost use Rattle.model.specs.Arrays.{Ordered, evaluated};
 ghost use Rattle.model.specs.Unlocking.{grants};
 use crate::closure::close;
 use atoms::AtomSet;
@@ -17,7 +16,7 @@ pub(crate) fn evaluate<'a>(
 ) -> AtomSet
     requires { ⌜ Ordered (now starts) ⌝ }
     ensures { λ r.
-        ⌜ r .bits ≡ levelByLevel (levelsIn (now (heads .entry)) (now (positive .entry)) (now (negated .entry)) (now (starts .entry)) 0 9) (credentials .bits) ⌝ }
+        ⌜ r .bits ≡ evaluated (now (heads .entry)) (now (positive .entry)) (now (negated .entry)) (now (starts .entry)) (credentials .bits) ⌝ }
 {
     let mut set = credentials;
     let mut level: usize = 0;
@@ -41,7 +40,7 @@ pub fn unlocks<'a>(
 ) -> bool
     requires { ⌜ Ordered (now starts) ⌝ }
     ensures { λ r.
-        ⌜ r ≡ grants request (levelByLevel (levelsIn (now (heads .entry)) (now (positive .entry)) (now (negated .entry)) (now (starts .entry)) 0 9) (credentials .bits)) ⌝ }
+        ⌜ r ≡ grants request (evaluated (now (heads .entry)) (now (positive .entry)) (now (negated .entry)) (now (starts .entry)) (credentials .bits)) ⌝ }
 {
     let model = evaluate(heads, positive, negated, starts, credentials);
     model.contains(request) && !model.contains(VIOLATION)

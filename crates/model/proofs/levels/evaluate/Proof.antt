@@ -42,7 +42,7 @@ element-copy-out-to c = search needs
 close-requires : tie.Need-close-requires Inv-loop μ-loop
 close-requires c κs =
     let s = c .before .before .before .before in
-    rw (add-one (c .before .before .before .loop .level)) (s .pre (c .before .before .before .loop .level) (c .before .before .loop-test .taken))
+    rw (add-one (c .before .before .before .loop .level)) (s .pre (c .before .before .before .loop .level) (omega arith))
 
 add-level : tie.Need-add-level Inv-loop μ-loop
 add-level c = search needs
@@ -55,15 +55,15 @@ loop-again c =
     let a = c .before .before .before .before .before .args in
     let l = c .before .before .before .before .loop in (
       omega arith,
-      levels-next-at (now (a .heads)) (now (a .positive)) (now (a .negated)) (now (a .starts)) (l .level)
-          (c .before .before .before .loop-test .taken) (l .set .bits) (c .close .result .bits) _ (c .close .ensures) (l .inv .1),
+      levels-next-at (now (a .heads)) (now (a .positive)) (now (a .negated)) (now (a .starts)) (l .level) (omega arith)
+          (l .set .bits) (c .close .result .bits) _ (c .close .ensures) (l .inv .1),
     )
 
 returns : tie.Need-returns Inv-loop μ-loop
 returns c =
     let a = c .before .before .args in
     let l = c .before .loop in
-    levels-done-at (now (a .heads)) (now (a .positive)) (now (a .negated)) (now (a .starts)) (l .level) (c .loop-test .left) (l .set .bits) _
+    levels-done-at (now (a .heads)) (now (a .positive)) (now (a .negated)) (now (a .starts)) (l .level) (omega arith) (l .set .bits) _
     (l .inv .1)
 
 pub evaluate-spec : {M : Type 1} → statement M
