@@ -4,10 +4,10 @@ use mathlib.Core.List.{List}
 use Prim.Native.Nat.{ℕ}
 use Rattle.atoms.specs.Sets.{Member}
 use Rattle.atoms.proofs.SetLaws.{subset-antisym, subset-true, true-subset}
-use Rattle.rules.specs.Model.{applies, closure, consequences}
+use Rattle.rules.specs.Model.{applies, closure, consequences, passBy}
 use Rattle.rules.specs.Rules.{Every, Headed, Rule}
 use Rattle.rules.specs.Stable.{Closed, Least, Stable, reduct}
-use Rattle.rules.proofs.ClosureLaws.{Keeps, closureBy-grows, closureBy-kept, closureBy-within}
+use Rattle.rules.proofs.ClosureLaws.{Keeps, closureBy-grows, closureBy-kept, closureBy-within, idle-kept}
 use Rattle.rules.proofs.ListLaws.{every-imp}
 use Rattle.rules.proofs.ReductLaws.{reduct-headed}
 
@@ -19,6 +19,13 @@ pub closure-within : (Q : ℕ → Type 0) (rs : List Rule) (C : ℕ) → ((k : �
 closure-within Q rs C hC h =
     closureBy-within applies Q rs C hC
     (every-imp _ (Keeps applies Q) (λ r hr S hS e. hr (λ k m. hS k (subset-true (r .positive) S e k m))) rs h)
+
+-- a pass that adds nothing: the set is closed
+pub idle-closed : (rs : List Rule) → Every Headed rs → (S : ℕ) → passBy applies rs S ≡ S → Closed rs S S
+idle-closed rs a S e = record {
+  holds = λ k m. m;
+  respects = every-imp _ _ (λ r h f. h (true-subset (r .positive) S f)) rs (idle-kept applies rs a S e);
+}
 
 pub closure-closed : (rs : List Rule) → Every Headed rs → (C : ℕ) → Closed rs C (closure rs C)
 closure-closed rs a C = record {

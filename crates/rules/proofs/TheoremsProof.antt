@@ -3,7 +3,7 @@ use Rattle.rules.specs.Model.{applies}
 use Rattle.rules.specs.Theorems.{Theorems}
 use Rattle.rules.proofs.ClosureLaws.{closureBy-fixed, closureBy-pass, pass-grows}
 use Rattle.rules.proofs.LayoutLaws.{in-ofLevel, same-stable}
-use Rattle.rules.proofs.LeastLaws.{closure-least}
+use Rattle.rules.proofs.LeastLaws.{closure-least, idle-closed}
 use Rattle.rules.proofs.LevelByLevelLaws.{level-by-level}
 use Rattle.rules.proofs.LevelLaws.{one-stable-any}
 use Rattle.rules.proofs.ReductLaws.{empty-body, reduct-every, stable-applied, two-sided}
@@ -22,4 +22,5 @@ theorems = record {
   inflationary = pass-grows applies;
   passes = closureBy-pass applies;
   idle = closureBy-fixed applies;
+  idle-closed = idle-closed;
 }

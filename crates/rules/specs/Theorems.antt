@@ -39,3 +39,5 @@ pub record Theorems : Type 1 where
   pub inflationary : (rs : List Rule) (S : ℕ) → Subset S (passBy applies rs S)
   pub passes : (rs : List Rule) (S : ℕ) → closure rs (passBy applies rs S) ≡ closure rs S
   pub idle : (rs : List Rule) (S : ℕ) → passBy applies rs S ≡ S → closure rs S ≡ S
+  -- an idle pass means closed
+  pub idle-closed : (rs : List Rule) → Every Headed rs → (S : ℕ) → passBy applies rs S ≡ S → Closed rs S S
