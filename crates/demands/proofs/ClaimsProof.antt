@@ -4,6 +4,7 @@ use Rattle.atoms.proofs.MeaningProof.{meaning}
 use Rattle.rules.proofs.TheoremsProof as rules
 use Rattle.records.proofs.TheoremsProof as records
 use Rattle.policy.proofs.TheoremsProof as policy
+use Rattle.evaluation.proofs.TheoremsProof as evaluation
 use Rattle.model.proofs.TheoremsProof as model
 use Rattle.demands.specs.Claims.{Claims}
 use Rattle.demands.proofs.MarkedCases.{marked}
@@ -22,6 +23,7 @@ claims = record {
   models = rules.theorems;
   encoding = records.theorems;
   policies = policy.theorems;
+  arrays = evaluation.theorems;
   answers = model.theorems;
   marked = marked;
 }

@@ -9,7 +9,7 @@ use Rattle.records.specs.Writing.{_if_not_, bytesOf, disclose_if_, setOf, write
 use Rattle.policy.specs.PolicyTest.{accessLevels, firstFailed, forAtoms, policyRefusal, recordRefusal, recordsRefusal}
 use Rattle.model.specs.Answers.{disclosableAnswer, modelAnswer}
 use Rattle.model.specs.Disclosure.{disclosable}
-use Rattle.model.specs.Unlocking.{unlocks}
+use Rattle.evaluation.specs.Unlocking.{unlocks}
 use Rattle.demands.specs.Marked.{Marked, policyA}
 
 pub marked : Marked

@@ -5,6 +5,7 @@ use Rattle.atoms.specs.Meaning.{Meaning}
 use Rattle.rules.specs.Theorems as rules
 use Rattle.records.specs.Theorems as records
 use Rattle.policy.specs.Theorems as policy
+use Rattle.evaluation.specs.Theorems as evaluation
 use Rattle.model.specs.Theorems as model
 use Rattle.demands.specs.Constants.{Constants}
 use Rattle.demands.specs.Marked.{Marked}
@@ -20,6 +21,8 @@ pub record Claims : Type 1 where
   pub encoding : records.Theorems
   -- demand 1, of the policy's test; and an accepted policy has one stable set over every set of credentials
   pub policies : policy.Theorems
+  -- rules in arrays have the policy's model, and what it is to unlock
+  pub arrays : evaluation.Theorems
   -- the model and the disclosable set of a policy, or its refusal
   pub answers : model.Theorems
   pub marked : Marked

@@ -11,7 +11,7 @@ use Rattle.records.specs.Writing.{_if_not_, disclose_if_, setOf}
 use Rattle.policy.specs.PolicyTest.{policyRefusal}
 use Rattle.policy.specs.WrittenForm.{at}
 use Rattle.model.specs.Answers.{disclosableAnswer, modelAnswer, set}
-use Rattle.model.specs.Unlocking.{unlocks}
+use Rattle.evaluation.specs.Unlocking.{unlocks}
 
 -- "Policy A: 16 if 0, 1; 16 if 2, not 3; 63 if 0, 2; disclosure 0 always; 1 if 0; 2 always."
 unfoldable pub policyA : List ℕ

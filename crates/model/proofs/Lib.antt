@@ -1,9 +1,6 @@
--- The laws behind the loops, and the theorems.
-pub mod ArrayLaws
-pub mod ListedLaws
-pub mod CountLaws
-pub mod LayoutLaws
+-- The laws of disclosure and of the answers, and the theorems.
 pub mod DisclosureLaws
 pub mod AcceptedLaws
+pub mod AnswerLaws
 pub mod TypeLaws
 pub mod TheoremsProof

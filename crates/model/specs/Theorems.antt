@@ -1,7 +1,6 @@
 -- The theorems of the model and the disclosable set. Assumes nothing.
 use mathlib.Core.Path.{_≡_}
 use mathlib.Core.Logic.{_↔_, _⊎_}
-use mathlib.Core.Bool.{true}
 use mathlib.Core.List.{List}
 use Prim.Native.Nat.{_<_, _^_, _≤_, ℕ}
 use Rattle.atoms.specs.Atoms.{lastCredential}
@@ -14,10 +13,8 @@ use Rattle.rules.specs.Stable.{Closed, Least, OneStable, Stable}
 use Rattle.records.specs.Records.{accessKind, disclosureKind, rulesOf}
 use Rattle.policy.specs.WrittenForm.{PolicyRefused, Refusal, WellFormed, refusalNumber}
 use Rattle.model.specs.Answers.{Answer, disclosableAnswer, modelAnswer, refused, set}
-use Rattle.model.specs.Arrays.{LaidOut, evaluated}
 use Rattle.model.specs.Disclosure.{Askable, Disclosable, askable, disclosable}
 use Rattle.model.specs.Types.{disclosedOf, modelledOf}
-use Rattle.model.specs.Unlocking.{Unlocks, unlocks}
 use Rattle.model.specs.declared.Disclosed.{Disclosed}
 use Rattle.model.specs.declared.Modelled.{Modelled}
 
@@ -43,11 +40,6 @@ pub record Accepted (bytes : List ℕ) : Type 0 where
   -- "An empty body always applies."
   pub empty-body : (C : ℕ) (r : Rule) → In r (rulesOf accessKind bytes) → r .positive ≡ empty → r .negated ≡ empty
       → Member (r .head) (model (rulesOf accessKind bytes) C)
-  -- "C unlocks service r if r is in the model and 63 is not."
-  pub unlocking : (r C : ℕ) → (unlocks (rulesOf accessKind bytes) r C ≡ true) ↔ Unlocks (rulesOf accessKind bytes) r C
-  -- the rules in arrays, laid out by level, have the same model
-  pub laid-out : (heads positive negated starts : List ℕ) → LaidOut (rulesOf accessKind bytes) heads positive negated starts → (C : ℕ)
-      → evaluated heads positive negated starts C ≡ model (rulesOf accessKind bytes) C
   -- "the least set that holds P and is closed under the disclosure rules"
   pub disclosable-iff : (P k : ℕ) → Member k (disclosable (rulesOf disclosureKind bytes) P) ↔ Disclosable (rulesOf disclosureKind bytes) P k
   -- "A credential is askable if it heads some disclosure rule."

@@ -8,19 +8,14 @@ ghost use Rattle.model.specs.Disclosure.{disclosable};
 ghost use Rattle.model.specs.Theorems.{GivesDisclosable, GivesModel};
 ghost use Rattle.model.specs.Types.{disclosedOf, modelledOf};
 use atoms::AtomSet;
-use closure::close;
-use layout::access_rules;
-use levels::evaluate;
-use listed::rules_of;
+use evaluation::closure::close;
+use evaluation::layout::access_rules;
+use evaluation::levels::evaluate;
+use evaluation::listed::rules_of;
 use policy::Checked;
 use policy::check;
 use policy::refusal::Refusal;
 use records::DISCLOSURE;
-
-mod closure;
-pub mod layout;
-pub mod levels;
-mod listed;
 
 // The model, or the policy's refusal and no set.
 pub enum Modelled {

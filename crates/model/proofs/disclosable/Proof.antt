@@ -6,7 +6,7 @@ use Rattle.atoms.proofs.ByteLaws.{slice-bytes}
 use Rattle.policy.specs.Types.{checkedOf}
 use Rattle.model.specs.Answers.{Answer, disclosableAnswer}
 use Rattle.model.specs.Theorems.{GivesDisclosable}
-use Rattle.model.proofs.AcceptedLaws.{answers-refused, answers-set, gives-disclosable}
+use Rattle.model.proofs.AnswerLaws.{answers-refused, answers-set, gives-disclosable}
 use Rattle.model.proofs.disclosable.Statement.{statement}
 use Rattle.model.proofs.disclosable.Tie as tie
 

@@ -7,7 +7,7 @@ use native.Mathlib.Omega.{arith}
 use Rattle.atoms.proofs.ByteLaws.{slice-bytes}
 use Rattle.records.specs.Records.{disclosureKind, rulesOf}
 use Rattle.policy.proofs.PolicyLaws.{disclosure-heads}
-use Rattle.model.specs.Arrays.{rulesIn}
+use Rattle.evaluation.specs.Arrays.{rulesIn}
 use Rattle.model.specs.Disclosure.{disclosable}
 use Rattle.model.proofs.AcceptedLaws.{settled-disclosable}
 use Rattle.model.proofs.DisclosureLaws.{disclosable-credentials}

@@ -6,7 +6,7 @@ use Rattle.atoms.proofs.ByteLaws.{slice-bytes}
 use Rattle.policy.specs.Types.{checkedOf}
 use Rattle.model.specs.Answers.{Answer, modelAnswer}
 use Rattle.model.specs.Theorems.{GivesModel}
-use Rattle.model.proofs.AcceptedLaws.{answers-refused, answers-set, gives-model}
+use Rattle.model.proofs.AnswerLaws.{answers-refused, answers-set, gives-model}
 use Rattle.model.proofs.model.Statement.{statement}
 use Rattle.model.proofs.model.Tie as tie
 

@@ -2,7 +2,7 @@
 use denote.Ref.{now}
 use borrow.Author.Needs.{needs}
 use Rattle.atoms.proofs.ByteLaws.{slice-bytes}
-use Rattle.model.proofs.AcceptedLaws.{laid-model-at}
+use Rattle.evaluation.proofs.AccessLaws.{laid-model-at}
 use Rattle.model.proofs.model_of.Statement.{statement}
 use Rattle.model.proofs.model_of.Tie as tie
 

@@ -1,0 +1,85 @@
+-- `evaluation::closure::pass` meets its contract. The loop's invariant: what is left of the rules makes of the set what all of them make of the first
+-- one. Assumes nothing.
+use mathlib.Core.Path.{_≡_, refl}
+use Prim.Native.Nat.{_-_, _≤_}
+use denote.Ref.{now}
+use borrow.Author.Needs.{needs}
+use native.Mathlib.Omega.{arith}
+use Rattle.rules.specs.LevelByLevel.{passOver}
+use Rattle.evaluation.specs.Arrays.{rulesIn}
+use Rattle.evaluation.proofs.ArrayLaws.{pass-done-at, pass-next-at}
+use Rattle.evaluation.proofs.closure.pass.Statement.{statement}
+use Rattle.evaluation.proofs.closure.pass.Tie as tie
+
+abbrev Inv-loop : tie.InvT-loop
+Inv-loop heads positive negated from to below reached₀ k₀ reached k =
+    (from ≤ k) × ((k ≤ to)
+    × (passOver (below .bits) (rulesIn heads positive negated k (to - k)) (reached .bits)
+    ≡ passOver (below .bits) (rulesIn heads positive negated from (to - from)) (reached₀ .bits)))
+
+abbrev μ-loop : tie.MeasureT-loop
+μ-loop heads positive negated from to below reached₀ k₀ reached k = to - k
+
+loop-holds : tie.Need-loop-holds Inv-loop μ-loop
+loop-holds c = (omega arith, (omega arith, refl))
+
+element-copy-out-head : tie.Need-element-copy-out-head Inv-loop μ-loop
+element-copy-out-head c = search needs
+
+mul-all : tie.Need-mul-all Inv-loop μ-loop
+mul-all c = search needs
+
+element-copy-out-all : tie.Need-element-copy-out-all Inv-loop μ-loop
+element-copy-out-all c = search needs
+
+mul-none : tie.Need-mul-none Inv-loop μ-loop
+mul-none c = search needs
+
+element-copy-out-none : tie.Need-element-copy-out-none Inv-loop μ-loop
+element-copy-out-none c = search needs
+
+fire-requires : tie.Need-fire-requires Inv-loop μ-loop
+fire-requires c κs = search needs
+
+add-k : tie.Need-add-k Inv-loop μ-loop
+add-k c = search needs
+
+loop-less : tie.Need-loop-less Inv-loop μ-loop
+loop-less c = omega arith
+
+loop-again : tie.Need-loop-again Inv-loop μ-loop
+loop-again c =
+    let a = c .before .before .before .before .before .before .args in
+    let l = c .before .before .before .before .before .loop in (
+      omega arith,
+      (
+        omega arith,
+        pass-next-at (now (a .heads)) (now (a .positive)) (now (a .negated)) (l .k) (a .to) (c .before .before .before .before .loop-test .taken)
+            (a .below .bits) (l .reached .bits) (c .fire .result .bits) _ (c .fire .ensures) (l .inv .1 .1),
+      ),
+    )
+
+returns : tie.Need-returns Inv-loop μ-loop
+returns c =
+    let a = c .before .before .args in
+    let l = c .before .loop in
+    pass-done-at (now (a .heads)) (now (a .positive)) (now (a .negated)) (l .k) (a .to) (c .loop-test .left)
+    (a .below .bits) (l .reached .bits) _ (l .inv .1 .1)
+
+pub pass-spec : {M : Type 1} → statement M
+pass-spec =
+    tie.close
+    (tie.spec
+    Inv-loop
+    μ-loop
+    loop-holds
+    element-copy-out-head
+    mul-all
+    element-copy-out-all
+    mul-none
+    element-copy-out-none
+    fire-requires
+    add-k
+    loop-less
+    loop-again
+    returns)

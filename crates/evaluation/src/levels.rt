@@ -1,0 +1,47 @@
+// The model from rules laid out by level.
+ghost use mathlib.Core.Path.{_≡_};
+ghost use Rattle.evaluation.specs.Arrays.{Ordered, evaluated};
+ghost use Rattle.evaluation.specs.Unlocking.{grants};
+use crate::closure::close;
+use atoms::AtomSet;
+use atoms::VIOLATION;
+
+// Level by level: each is finished before the next one begins.
+pub fn evaluate<'a>(
+    heads: &'a [u8; 128],
+    positive: &'a [u64; 128],
+    negated: &'a [u64; 128],
+    starts: &'a [usize; 10],
+    credentials: AtomSet,
+) -> AtomSet
+    requires { ⌜ Ordered (now starts) ⌝ }
+    ensures { λ r.
+        ⌜ r .bits ≡ evaluated (now (heads .entry)) (now (positive .entry)) (now (negated .entry)) (now (starts .entry)) (credentials .bits) ⌝ }
+{
+    let mut set = credentials;
+    let mut level: usize = 0;
+    while level < 9 {
+        let from = starts[level];
+        let to = starts[level + 1];
+        set = close(heads, positive, negated, from, to, set);
+        level += 1;
+    }
+    set
+}
+
+// The request is in the model and atom 63 is not.
+pub fn unlocks<'a>(
+    heads: &'a [u8; 128],
+    positive: &'a [u64; 128],
+    negated: &'a [u64; 128],
+    starts: &'a [usize; 10],
+    request: u8,
+    credentials: AtomSet,
+) -> bool
+    requires { ⌜ Ordered (now starts) ⌝ }
+    ensures { λ r.
+        ⌜ r ≡ grants request (evaluated (now (heads .entry)) (now (positive .entry)) (now (negated .entry)) (now (starts .entry)) (credentials .bits)) ⌝ }
+{
+    let model = evaluate(heads, positive, negated, starts, credentials);
+    model.contains(request) && !model.contains(VIOLATION)
+}

@@ -1,0 +1,52 @@
+// A policy's rules of one kind, read once from its bytes.
+ghost use mathlib.Core.Path.{_≡_};
+ghost use mathlib.Core.Bool.{cond};
+ghost use Prim.Native.Nat.{_+_, _<_, _≤_};
+ghost use lib.ListN.{length};
+ghost use Rattle.records.specs.Records.{rulesOf};
+ghost use Rattle.evaluation.specs.Arrays.{rulesIn};
+use records::record_at;
+
+// The first `count` places hold the rules, in the order of their records.
+pub struct Listed {
+    pub heads: [u8; 128],
+    pub positive: [u64; 128],
+    pub negated: [u64; 128],
+    pub count: usize,
+}
+
+// The rules of one kind of a policy that is not too long.
+pub fn rules_of(policy: &[u8], kind: u8) -> Listed
+    requires { ⌜ length (now policy) ≤ 2304 ⌝ }
+    ensures { λ r. ⌜ (rulesIn (r .heads) (r .positive) (r .negated) 0 (r .count) ≡ rulesOf kind (now (policy .entry))) × (r .count ≤ 128) ⌝ }
+{
+    let records = policy.len() / 18;
+    let mut heads = [0u8; 128];
+    let mut positive = [0u64; 128];
+    let mut negated = [0u64; 128];
+    let mut count: usize = 0;
+    let mut k: usize = 0;
+    while k < records {
+        let parsed = record_at(policy, k);
+        // Each record is put at the next place, and counts there if it is of the kind.
+        heads[count] = parsed.head;
+        positive[count] = parsed.positive.bits;
+        negated[count] = parsed.negated.bits;
+        count = after(count, parsed.kind == kind);
+        k += 1;
+    }
+    Listed {
+        heads,
+        positive,
+        negated,
+        count,
+    }
+}
+
+// The place after this one, if this one is taken.
+fn after(place: usize, taken: bool) -> usize
+    requires { ⌜ place < 128 ⌝ }
+    ensures { λ r. ⌜ (r ≡ cond taken (place + 1) place) × (r ≤ place + 1) ⌝ }
+{
+    if taken { place + 1 } else { place }
+}
