@@ -45,8 +45,8 @@ module _ (bytes : List ℕ) (b : Bytes bytes) (w : WellFormed bytes) where
   pub unlocks-iff : (r C : ℕ) → (unlocks (rulesOf accessKind bytes) r C ≡ true) ↔ Unlocks (rulesOf accessKind bytes) r C
   unfolding unlocks
   unlocks-iff r C = (
-    λ e. let h = test M .0 e in record { set = M; stable = one-model bytes b w C .stable; service = h .0; no-violation = h .1 },
-    λ u. subst (λ (x : ℕ). grants r x ≡ true) (one-model bytes b w C .only (u .set) (u .stable)) (test (u .set) .1 (u .service, u .no-violation)),
+    λ e. let h = test M .0 e in record { stable-set = M; stable = one-model bytes b w C .stable; service = h .0; no-violation = h .1 },
+    λ u. subst (λ (x : ℕ). grants r x ≡ true) (one-model bytes b w C .only (u .stable-set) (u .stable)) (test (u .stable-set) .1 (u .service, u .no-violation)),
   )
     where
       M : ℕ

@@ -10,10 +10,10 @@ use Rattle.rules.specs.Stable.{Stable}
 
 -- "C unlocks service r if r is in the model and 63 is not.", where the model is the stable set of the access rules
 pub record Unlocks (access : List Rule) (r C : ℕ) : Type 0 where
-  pub set : ℕ
-  pub stable : Stable access C set
-  pub service : Member r set
-  pub no-violation : Member violation set → ⊥
+  pub stable-set : ℕ
+  pub stable : Stable access C stable-set
+  pub service : Member r stable-set
+  pub no-violation : Member violation stable-set → ⊥
 
 -- the same of a set that is the model
 abbrev pub grants : ℕ → ℕ → Bool

@@ -5,10 +5,10 @@ use Prim.Native.Nat.{ℕ}
 use Rattle.atoms.specs.LittleEndian.{Bytes}
 use Rattle.atoms.specs.Sets.{Member, empty}
 use Rattle.atoms.proofs.SetLaws.{none-is-empty}
-use Rattle.rules.specs.LevelByLevel.{In, settle}
+use Rattle.rules.specs.LevelByLevel.{OneOf, settle}
 use Rattle.rules.specs.Model.{model}
 use Rattle.rules.specs.Rules.{Every, Rule}
-use Rattle.rules.proofs.LayoutLaws.{every-in}
+use Rattle.rules.proofs.LayoutLaws.{every-one-of}
 use Rattle.rules.proofs.ListLaws.{every-imp}
 use Rattle.rules.proofs.LoopLaws.{settle-positive}
 use Rattle.rules.proofs.ReductLaws.{empty-body, stable-applied}
@@ -16,7 +16,7 @@ use Rattle.records.specs.Records.{accessKind, disclosureKind, rulesOf}
 use Rattle.policy.specs.WrittenForm.{DisclosureBody, WellFormed}
 use Rattle.policy.proofs.PolicyLaws.{disclosure-bodies, disclosure-heads, one-model}
 use Rattle.model.specs.Disclosure.{disclosable}
-use Rattle.model.specs.Theorems.{Accepted}
+use Rattle.model.specs.Theorems.{OfWellFormed}
 use Rattle.model.proofs.DisclosureLaws as D
 
 module _ (bytes : List ℕ) (b : Bytes bytes) (w : WellFormed bytes) where
@@ -37,11 +37,11 @@ module _ (bytes : List ℕ) (b : Bytes bytes) (w : WellFormed bytes) where
       let rs = rulesOf disclosureKind bytes in
       x ∙ ap₂ settle q e ∙ settle-positive rs disclosure-positive P
 
-  applies-always : (C : ℕ) (r : Rule) → In r access → r .positive ≡ empty → r .negated ≡ empty → Member (r .head) (model access C)
+  applies-always : (C : ℕ) (r : Rule) → OneOf r access → r .positive ≡ empty → r .negated ≡ empty → Member (r .head) (model access C)
   applies-always C r i p n =
-      every-in _ access (stable-applied access C (model access C) (one-model bytes b w C .stable)) r i (empty-body r p n (model access C))
+      every-one-of _ access (stable-applied access C (model access C) (one-model bytes b w C .stable)) r i (empty-body r p n (model access C))
 
-  pub accepted : Accepted bytes
+  pub accepted : OfWellFormed bytes
   accepted =
       let low = disclosure-heads bytes b w in
       let rs = rulesOf disclosureKind bytes in

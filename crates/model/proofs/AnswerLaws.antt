@@ -14,7 +14,7 @@ use Rattle.policy.specs.Theorems.{Tested}
 use Rattle.policy.specs.WrittenForm.{Refusal, WellFormed, at, refusalNumber}
 use Rattle.policy.proofs.PolicyLaws.{disclosure-heads, one-model}
 use Rattle.policy.proofs.TheoremsProof as policy
-use Rattle.model.specs.Answers.{disclosableAnswer, modelAnswer, refused, set, unlessRefused}
+use Rattle.model.specs.Answers.{disclosableAnswer, modelAnswer, refused, given, unlessRefused}
 use Rattle.model.specs.Disclosure.{disclosable}
 use Rattle.model.specs.Theorems.{Gives, GivesDisclosable, GivesModel}
 use Rattle.model.proofs.DisclosureLaws as D
@@ -24,7 +24,7 @@ gives : (bytes : List ℕ) → Bytes bytes → (Right : ℕ → Type 0) (S : ℕ
     → Gives bytes Right (unlessRefused (policyRefusal bytes) S)
 gives bytes b Right S right only = go (policyRefusal bytes) (policy.theorems .tested bytes b) (policy.theorems .numbers bytes b .only)
   where
-    not-set : (f : Refusal) (X : ℕ) → refused f ≡ set X → ⊥
+    not-set : (f : Refusal) (X : ℕ) → refused f ≡ given X → ⊥
     not-set f X e = let z : _≡_ {A = ℕ} 0 1 = cc in omega arith
 
     not-some : (f : Refusal) → none ≡ some f → ⊥
@@ -38,7 +38,7 @@ gives bytes b Right S right only = go (policyRefusal bytes) (policy.theorems .te
     go none t n =
         let w = t .accepts .0 refl in
         record {
-          sets = λ X. (λ e. let x : S ≡ X = cc in (w, subst Right x (right w)), λ h. ap set (sym (only w X (h .1))));
+          sets = λ X. (λ e. let x : S ≡ X = cc in (w, subst Right x (right w)), λ h. ap given (sym (only w X (h .1))));
           refusals = λ f. (λ e. absurd (not-set f S (sym e)), λ h. absurd (not-some f (t .refuses f .1 h)));
           numbers = λ f e. absurd (not-set f S (sym e));
         }
@@ -50,8 +50,8 @@ gives bytes b Right S right only = go (policyRefusal bytes) (policy.theorems .te
 
 -- the two ways that an answer is given
 module _ (bytes : List ℕ) (S : ℕ) where
-  pub answers-set : policyRefusal bytes ≡ none → (X : ℕ) → X ≡ S → set X ≡ unlessRefused (policyRefusal bytes) S
-  answers-set e X x = ap set x ∙ ap (λ (o : Option Refusal). unlessRefused o S) (sym e)
+  pub answers-set : policyRefusal bytes ≡ none → (X : ℕ) → X ≡ S → given X ≡ unlessRefused (policyRefusal bytes) S
+  answers-set e X x = ap given x ∙ ap (λ (o : Option Refusal). unlessRefused o S) (sym e)
 
   pub answers-refused : (f : Refusal) → policyRefusal bytes ≡ some f → refused f ≡ unlessRefused (policyRefusal bytes) S
   answers-refused f e = ap (λ (o : Option Refusal). unlessRefused o S) (sym e)

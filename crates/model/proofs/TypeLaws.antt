@@ -10,7 +10,7 @@ use Rattle.model.specs.declared.Modelled.{Modelled}
 use Rattle.model.specs.declared.Modelled.the-variants as modelled
 
 modelledBack : A.Answer → Modelled
-modelledBack (A.set S) = modelled.Model (record { bits = S })
+modelledBack (A.given S) = modelled.Model (record { bits = S })
 modelledBack (A.refused f) = modelled.Refused (refusalBack f)
 
 modelled-back : (x : Modelled) → modelledBack (modelledOf x) ≡ x
@@ -22,7 +22,7 @@ pub modelled-one : (x y : Modelled) → modelledOf x ≡ modelledOf y → x ≡ 
 modelled-one = one-to-one modelledOf modelledBack modelled-back
 
 disclosedBack : A.Answer → Disclosed
-disclosedBack (A.set S) = disclosed.Set S
+disclosedBack (A.given S) = disclosed.Set S
 disclosedBack (A.refused f) = disclosed.Refused (refusalBack f)
 
 disclosed-back : (x : Disclosed) → disclosedBack (disclosedOf x) ≡ x

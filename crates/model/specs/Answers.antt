@@ -10,12 +10,12 @@ use Rattle.model.specs.Disclosure.{disclosable}
 
 -- "model and disclosable set give 1 to 6 and then no set"
 pub data Answer : Type 0 where
-  set : ℕ → Answer
+  given : ℕ → Answer
   refused : Refusal → Answer
 
 -- S, or the refusal that the policy's test gave, and no set
 abbrev pub unlessRefused : Option Refusal → ℕ → Answer
-unlessRefused none S = set S
+unlessRefused none S = given S
 unlessRefused (some f) S = refused f
 
 -- the model of a policy's bytes and a set of credentials

@@ -6,13 +6,13 @@ use Prim.Native.Nat.{_<_, _^_, _≤_, ℕ}
 use Rattle.atoms.specs.Atoms.{lastCredential}
 use Rattle.atoms.specs.LittleEndian.{Bytes}
 use Rattle.atoms.specs.Sets.{Member, Subset, empty}
-use Rattle.rules.specs.LevelByLevel.{In}
+use Rattle.rules.specs.LevelByLevel.{OneOf}
 use Rattle.rules.specs.Model.{model}
 use Rattle.rules.specs.Rules.{Rule}
 use Rattle.rules.specs.Stable.{Closed, Least, OneStable, Stable}
 use Rattle.records.specs.Records.{accessKind, disclosureKind, rulesOf}
 use Rattle.policy.specs.WrittenForm.{PolicyRefused, Refusal, WellFormed, refusalNumber}
-use Rattle.model.specs.Answers.{Answer, disclosableAnswer, modelAnswer, refused, set}
+use Rattle.model.specs.Answers.{Answer, disclosableAnswer, modelAnswer, refused, given}
 use Rattle.model.specs.Disclosure.{Askable, Disclosable, askable, disclosable}
 use Rattle.model.specs.Types.{disclosedOf, modelledOf}
 use Rattle.model.specs.declared.Disclosed.{Disclosed}
@@ -20,7 +20,7 @@ use Rattle.model.specs.declared.Modelled.{Modelled}
 
 -- An answer gives the sets that are Right, of a policy of the written form, and no set of any other: of that its refusal.
 pub record Gives (bytes : List ℕ) (Right : ℕ → Type 0) (a : Answer) : Type 0 where
-  pub sets : (S : ℕ) → (a ≡ set S) ↔ (WellFormed bytes × Right S)
+  pub sets : (S : ℕ) → (a ≡ given S) ↔ (WellFormed bytes × Right S)
   pub refusals : (f : Refusal) → (a ≡ refused f) ↔ PolicyRefused bytes f
   -- "give 1 to 6"
   pub numbers : (f : Refusal) → a ≡ refused f → (1 ≤ refusalNumber f) × (refusalNumber f ≤ 6)
@@ -34,11 +34,11 @@ abbrev pub GivesDisclosable : List ℕ → ℕ → Answer → Type 0
 GivesDisclosable bytes P = Gives bytes (Least (Closed (rulesOf disclosureKind bytes) P))
 
 -- What holds of every policy of the written form.
-pub record Accepted (bytes : List ℕ) : Type 0 where
+pub record OfWellFormed (bytes : List ℕ) : Type 0 where
   -- "just one stable set exists; that is the model"
   pub one-model : (C : ℕ) → OneStable (rulesOf accessKind bytes) C (model (rulesOf accessKind bytes) C)
   -- "An empty body always applies."
-  pub empty-body : (C : ℕ) (r : Rule) → In r (rulesOf accessKind bytes) → r .positive ≡ empty → r .negated ≡ empty
+  pub empty-body : (C : ℕ) (r : Rule) → OneOf r (rulesOf accessKind bytes) → r .positive ≡ empty → r .negated ≡ empty
       → Member (r .head) (model (rulesOf accessKind bytes) C)
   -- "the least set that holds P and is closed under the disclosure rules"
   pub disclosable-iff : (P k : ℕ) → Member k (disclosable (rulesOf disclosureKind bytes) P) ↔ Disclosable (rulesOf disclosureKind bytes) P k
@@ -53,7 +53,7 @@ pub record Accepted (bytes : List ℕ) : Type 0 where
   pub credentials : (P : ℕ) → P < 2 ^ 16 → disclosable (rulesOf disclosureKind bytes) P < 2 ^ 16
 
 pub record Theorems : Type 0 where
-  pub accepted : (bytes : List ℕ) → Bytes bytes → WellFormed bytes → Accepted bytes
+  pub accepted : (bytes : List ℕ) → Bytes bytes → WellFormed bytes → OfWellFormed bytes
   pub models : (bytes : List ℕ) → Bytes bytes → (C : ℕ) → GivesModel bytes C (modelAnswer bytes C)
   pub disclosables : (bytes : List ℕ) → Bytes bytes → (P : ℕ) → GivesDisclosable bytes P (disclosableAnswer bytes P)
   -- what the program's answers mean is one-to-one, so that a contract through these maps fixes the answer

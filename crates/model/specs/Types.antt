@@ -7,9 +7,9 @@ use Rattle.model.specs.declared.Modelled.{Modelled}
 use Rattle.model.specs.declared.Modelled.the-variants as modelled
 
 abbrev pub modelledOf : Modelled → A.Answer
-modelledOf (modelled.Model s) = A.set (s .bits)
+modelledOf (modelled.Model s) = A.given (s .bits)
 modelledOf (modelled.Refused f) = A.refused (refusalOf f)
 
 abbrev pub disclosedOf : Disclosed → A.Answer
-disclosedOf (disclosed.Set s) = A.set s
+disclosedOf (disclosed.Set s) = A.given s
 disclosedOf (disclosed.Refused f) = A.refused (refusalOf f)

@@ -2,7 +2,7 @@
 use Rattle.rules.specs.Model.{applies}
 use Rattle.rules.specs.Theorems.{Theorems}
 use Rattle.rules.proofs.ClosureLaws.{closureBy-fixed, closureBy-pass, pass-grows}
-use Rattle.rules.proofs.LayoutLaws.{in-ofLevel, same-stable}
+use Rattle.rules.proofs.LayoutLaws.{one-of-level, same-stable}
 use Rattle.rules.proofs.LeastLaws.{closure-least, idle-closed}
 use Rattle.rules.proofs.LevelByLevelLaws.{level-by-level}
 use Rattle.rules.proofs.LevelLaws.{one-stable-any}
@@ -17,7 +17,7 @@ theorems = record {
   closures = closure-least;
   models = one-stable-any;
   orders = same-stable;
-  of-level = in-ofLevel;
+  of-level = one-of-level;
   levels = level-by-level;
   inflationary = pass-grows applies;
   passes = closureBy-pass applies;

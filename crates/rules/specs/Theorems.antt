@@ -4,7 +4,7 @@ use mathlib.Core.Logic.{_↔_}
 use mathlib.Core.List.{List}
 use Prim.Native.Nat.{_<_, ℕ}
 use Rattle.atoms.specs.Sets.{Member, Subset, empty}
-use Rattle.rules.specs.LevelByLevel.{In, SameRules, byLevel, levelByLevel, ofLevel}
+use Rattle.rules.specs.LevelByLevel.{OneOf, SameRules, byLevel, levelByLevel, ofLevel}
 use Rattle.rules.specs.Model.{applies, closure, model, passBy}
 use Rattle.rules.specs.Rules.{Every, Headed, Rule, Stratified}
 use Rattle.rules.specs.Stable.{Closed, Least, OneStable, Stable, Unstruck, reduct}
@@ -31,7 +31,7 @@ pub record Theorems : Type 1 where
   -- "The same record may come twice.": the order of rules and their repetition do not change what is stable
   pub orders : (rs qs : List Rule) → SameRules rs qs → (C M : ℕ) → Stable rs C M → Stable qs C M
   -- the rules of level l are those of the list on that level, and no others
-  pub of-level : (lev : ℕ → ℕ) (l : ℕ) (rs : List Rule) (r : Rule) → In r (ofLevel lev l rs) ↔ (In r rs × (lev (r .head) ≡ l))
+  pub of-level : (lev : ℕ → ℕ) (l : ℕ) (rs : List Rule) (r : Rule) → OneOf r (ofLevel lev l rs) ↔ (OneOf r rs × (lev (r .head) ≡ l))
   -- one level after another gives the model, where all heads are on the levels below n
   pub levels : (lev : ℕ → ℕ) (rs : List Rule) → Every (Stratified lev) rs → (C n : ℕ) → Every (λ r. lev (r .head) < n) rs
       → levelByLevel (byLevel lev 0 n rs) C ≡ model rs C
