@@ -1,5 +1,6 @@
 -- Every theorem of specs/Claims. Assumes nothing.
 use mathlib.Core.Path.{refl}
+use Rattle.atoms.specs.LittleEndian.{littleEndian}
 use Rattle.atoms.proofs.MeaningProof.{meaning}
 use Rattle.rules.proofs.TheoremsProof as rules
 use Rattle.records.proofs.TheoremsProof as records
@@ -10,6 +11,7 @@ use Rattle.demands.specs.Claims.{Claims}
 use Rattle.demands.proofs.MarkedCases.{marked}
 
 pub claims : Claims
+unfolding littleEndian
 claims = record {
   constants = record {
     last-credential = refl;
@@ -17,6 +19,7 @@ claims = record {
     breach-mark = refl;
     access = refl;
     disclosure = refl;
+    little-endian = refl;
     refused-6-at-0 = (refl, refl);
   };
   sets = meaning;

@@ -18,6 +18,7 @@ unfolding _if_not_ disclose_if_ writeRecord bytesOf setOf littleEndian readRecor
     disclosableAnswer policyA
 marked = record {
   example = refl;
+  disclosure-example = refl;
   d = refl;
   d-no-grant = refl;
   e = refl;

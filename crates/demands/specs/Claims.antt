@@ -1,6 +1,7 @@
--- The theorems that a customer reads, on one page; proofs/ClaimsProof has them all. What they leave to belief: that the definitions which state them
--- (Member, Closed, Least, Stable, Askable, WellFormed, PolicyRefused) and the maps from the program's types (specs/Types of records, policy and model)
--- say what the paper says. Assumes nothing.
+-- The theorems that a customer reads, on one page; proofs/ClaimsProof has them all. What they leave to belief is that the words in which they are
+-- stated say what the paper says: Member and Subset; readRecord, recordAt, rulesOf and level; Levelled, BodyHolds, ClosedBeside, Least and
+-- OneStable; Closed and Disclosable; WellFormed and PolicyRefused with their parts; Gives; and the maps from the program's types (specs/Types of
+-- records, policy and model). Assumes nothing.
 use Rattle.atoms.specs.Meaning.{Meaning}
 use Rattle.rules.specs.Theorems as rules
 use Rattle.records.specs.Theorems as records

@@ -1,6 +1,8 @@
 -- Document 01's own numbers, held against the names that stand for them. Assumes nothing.
 use mathlib.Core.Path.{_≡_}
+use mathlib.Core.List.{[], _∷_}
 use Rattle.atoms.specs.Atoms.{firstDerived, lastCredential, violation}
+use Rattle.atoms.specs.LittleEndian.{littleEndian}
 use Rattle.records.specs.Records.{accessKind, disclosureKind}
 use Rattle.policy.specs.WrittenForm.{at, recordNumber, refusalNumber}
 
@@ -12,5 +14,7 @@ pub record Constants : Type 0 where
   -- "Byte 0 is the kind: 1 access, 2 disclosure."
   pub access : accessKind ≡ 1
   pub disclosure : disclosureKind ≡ 2
+  -- "both little-endian"
+  pub little-endian : littleEndian (0x01 ∷ 0x02 ∷ 0x03 ∷ 0x04 ∷ 0x05 ∷ 0x06 ∷ 0x07 ∷ 0x08 ∷ []) ≡ 0x0807060504030201
   -- "its number, and for the policy "at" with its record number, as "refused 6 at 0""
   pub refused-6-at-0 : (refusalNumber (at 6 0) ≡ 6) × (recordNumber (at 6 0) ≡ 0)

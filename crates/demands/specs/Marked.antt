@@ -30,6 +30,8 @@ unlocksBy bytes r P = unlocks (rulesOf accessKind bytes) r P
 pub record Marked : Type 0 where
   -- "Example, "16 if 2 and not 3": hexadecimal 01 10 04, seven zeros, 08, seven zeros."
   pub example : (16 if 2 ∷ [] not (3 ∷ [])) ≡ 0x01 ∷ 0x10 ∷ 0x04 ∷ 0 ∷ 0 ∷ 0 ∷ 0 ∷ 0 ∷ 0 ∷ 0 ∷ 0x08 ∷ 0 ∷ 0 ∷ 0 ∷ 0 ∷ 0 ∷ 0 ∷ 0 ∷ []
+  -- a disclosure record in bytes, "1 if 0"
+  pub disclosure-example : (disclose 1 if (0 ∷ [])) ≡ 0x02 ∷ 0x01 ∷ 0x01 ∷ 0 ∷ 0 ∷ 0 ∷ 0 ∷ 0 ∷ 0 ∷ 0 ∷ 0 ∷ 0 ∷ 0 ∷ 0 ∷ 0 ∷ 0 ∷ 0 ∷ 0 ∷ []
   -- "(d) policy A, P = {0, 2}: 63 in the model, no grant", though 16 is in it too
   pub d : modelAnswer policyA (setOf (0 ∷ 2 ∷ [])) ≡ given (setOf (0 ∷ 2 ∷ 16 ∷ 63 ∷ []))
   pub d-no-grant : unlocksBy policyA 16 (setOf (0 ∷ 2 ∷ [])) ≡ false

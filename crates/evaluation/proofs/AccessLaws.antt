@@ -16,10 +16,14 @@ use Rattle.records.specs.Levels.{level}
 use Rattle.records.specs.Records.{accessKind, rulesOf}
 use Rattle.records.proofs.LevelLaws.{level-atom}
 use Rattle.policy.specs.WrittenForm.{WellFormed}
-use Rattle.policy.proofs.DecideLaws.{Decides, decides-and, decides-eq, decides-not}
+use Rattle.policy.proofs.DecideLaws.{decides-and, decides-eq, decides-not}
 use Rattle.policy.proofs.PolicyLaws.{one-model, stratified}
 use Rattle.evaluation.specs.Arrays.{LaidOut, evaluated}
 use Rattle.evaluation.specs.Unlocking.{Unlocks, grants, unlocks}
+
+pub grants-means : (r M : ℕ) → (grants r M ≡ true) ↔ (Member r M × (Member violation M → ⊥))
+grants-means r M =
+    decides-and (member r M) (not (member violation M)) (decides-eq (bit M r) 1) (decides-not (member violation M) (decides-eq (bit M violation) 1))
 
 module _ (bytes : List ℕ) (b : Bytes bytes) (w : WellFormed bytes) where
   abbrev access : List Rule
@@ -45,14 +49,9 @@ module _ (bytes : List ℕ) (b : Bytes bytes) (w : WellFormed bytes) where
   pub unlocks-iff : (r C : ℕ) → (unlocks (rulesOf accessKind bytes) r C ≡ true) ↔ Unlocks (rulesOf accessKind bytes) r C
   unfolding unlocks
   unlocks-iff r C = (
-    λ e. let h = test M .0 e in record { stable-set = M; stable = one-model bytes b w C .stable; service = h .0; no-violation = h .1 },
-    λ u. subst (λ (x : ℕ). grants r x ≡ true) (one-model bytes b w C .only (u .stable-set) (u .stable)) (test (u .stable-set) .1 (u .service, u .no-violation)),
+    λ e. let h = grants-means r M .0 e in record { stable-set = M; stable = one-model bytes b w C .stable; service = h .0; no-violation = h .1 },
+    λ u. subst (λ (x : ℕ). grants r x ≡ true) (one-model bytes b w C .only (u .stable-set) (u .stable)) (grants-means r (u .stable-set) .1 (u .service, u .no-violation)),
   )
     where
       M : ℕ
       M = model access C
-
-      test : (X : ℕ) → Decides (grants r X) (Member r X × (Member violation X → ⊥))
-      test X =
-          decides-and (member r X) (not (member violation X)) (decides-eq (bit X r) 1)
-          (decides-not (member violation X) (decides-eq (bit X violation) 1))

@@ -5,13 +5,16 @@ use mathlib.Core.Bool.{true}
 use mathlib.Core.List.{List}
 use Prim.Native.Nat.{ℕ}
 use Rattle.atoms.specs.LittleEndian.{Bytes}
+use Rattle.atoms.specs.Sets.{Member}
 use Rattle.rules.specs.Model.{model}
 use Rattle.records.specs.Records.{accessKind, rulesOf}
 use Rattle.policy.specs.WrittenForm.{WellFormed}
 use Rattle.evaluation.specs.Arrays.{LaidOut, evaluated}
-use Rattle.evaluation.specs.Unlocking.{Unlocks, unlocks}
+use Rattle.evaluation.specs.Unlocking.{Unlocks, grants, unlocks}
 
 pub record Theorems : Type 0 where
+  -- "r is in the model and 63 is not", of any set
+  pub grants-means : (r M : ℕ) → (grants r M ≡ true) ↔ (Member r M × (Member 63 M → ⊥))
   -- "C unlocks service r if r is in the model and 63 is not."
   pub unlocking : (bytes : List ℕ) → Bytes bytes → WellFormed bytes → (r C : ℕ)
       → (unlocks (rulesOf accessKind bytes) r C ≡ true) ↔ Unlocks (rulesOf accessKind bytes) r C

@@ -1,4 +1,4 @@
-// Rules closed over: passes over the rules of one level, the last of which adds nothing.
+// Rules closed over: passes over the rules at some places, the last of which adds nothing.
 ghost use mathlib.Core.Path.{_≡_};
 ghost use mathlib.Core.Bool.{_&&_};
 ghost use mathlib.Core.List.{[], _∷_};

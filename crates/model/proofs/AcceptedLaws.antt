@@ -50,6 +50,7 @@ module _ (bytes : List ℕ) (b : Bytes bytes) (w : WellFormed bytes) where
         empty-body = applies-always;
         disclosable-iff = D.disclosable-iff rs low;
         askable-iff = D.askable-iff rs low;
+        askable-means = D.askable-means bytes;
         askable-credential = D.askable-credential rs low;
         shown = D.shown-disclosable rs;
         grows = D.disclosable-mono rs low;

@@ -14,6 +14,8 @@ use Rattle.rules.specs.Stable.{Closed, Least}
 use Rattle.rules.proofs.ClosureLaws.{closureBy-grows}
 use Rattle.rules.proofs.LeastLaws.{closure-closed, closure-least, closure-within}
 use Rattle.rules.proofs.ListLaws.{every-imp}
+use Rattle.records.specs.Records.{disclosureKind, recordAt, rulesOf, wholeRecords}
+use Rattle.records.proofs.RuleLaws.{every-rule}
 use Rattle.model.specs.Disclosure.{Askable, Disclosable, askable, disclosable}
 
 -- the head is a credential
@@ -27,6 +29,26 @@ heads-askable rs = go rs (λ r i. i)
     go : (qs : List Rule) → ((k : ℕ) → Askable qs k → Askable rs k) → Every (λ r. Askable rs (r .head)) qs
     go [] f = tt
     go (q ∷ qs) f = (f (q .head) (inl refl), go qs (λ k i. f k (inr i)))
+
+-- what holds if some rule heads k
+askable-some : (Q : Type 0) (rs : List Rule) (k : ℕ) → Every (λ r. r .head ≡ k → Q) rs → Askable rs k → Q
+askable-some Q (r ∷ rs) k h (inl e) = h .0 (sym e)
+askable-some Q (r ∷ rs) k h (inr i) = askable-some Q rs k (h .1) i
+
+-- by records
+pub askable-means : (bytes : List ℕ) (k : ℕ)
+    → Askable (rulesOf disclosureKind bytes) k
+    ↔ ((j : ℕ) × ((j < wholeRecords bytes) × ((recordAt bytes j .kind ≡ disclosureKind) × (recordAt bytes j .rule .head ≡ k))))
+askable-means bytes k = (
+  askable-some Found rs k (every-rule disclosureKind bytes (λ r. r .head ≡ k → Found) .1 (λ j l e h. (j, (l, (e, h))))),
+  λ f. subst (Askable rs) (f .1 .1 .1) (every-rule disclosureKind bytes (λ r. Askable rs (r .head)) .0 (heads-askable rs) (f .0) (f .1 .0) (f .1 .1 .0)),
+)
+  where
+    rs : List Rule
+    rs = rulesOf disclosureKind bytes
+
+    Found : Type 0
+    Found = (j : ℕ) × ((j < wholeRecords bytes) × ((recordAt bytes j .kind ≡ disclosureKind) × (recordAt bytes j .rule .head ≡ k)))
 
 pub shown-disclosable : (rs : List Rule) (P : ℕ) → Subset P (disclosable rs P)
 unfolding disclosable

@@ -1,4 +1,4 @@
--- Document 01, "Disclosure". What stands above uses only the laws of specs/Theorems. Assumes nothing.
+-- Document 01, "Disclosure". Proofs above use only its laws (specs/Theorems); the marked cases compute it. Assumes nothing.
 use mathlib.Core.Path.{_≡_}
 use mathlib.Core.Logic.{_⊎_}
 use mathlib.Core.List.{List, [], _∷_}

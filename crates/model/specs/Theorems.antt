@@ -10,7 +10,7 @@ use Rattle.rules.specs.LevelByLevel.{OneOf}
 use Rattle.rules.specs.Model.{model}
 use Rattle.rules.specs.Rules.{Rule}
 use Rattle.rules.specs.Stable.{Closed, Least, OneStable, Stable}
-use Rattle.records.specs.Records.{accessKind, disclosureKind, rulesOf}
+use Rattle.records.specs.Records.{accessKind, disclosureKind, recordAt, rulesOf, wholeRecords}
 use Rattle.policy.specs.WrittenForm.{PolicyRefused, Refusal, WellFormed, refusalNumber}
 use Rattle.model.specs.Answers.{Answer, disclosableAnswer, modelAnswer, refused, given}
 use Rattle.model.specs.Disclosure.{Askable, Disclosable, askable, disclosable}
@@ -44,6 +44,9 @@ pub record OfWellFormed (bytes : List ℕ) : Type 0 where
   pub disclosable-iff : (P k : ℕ) → Member k (disclosable (rulesOf disclosureKind bytes) P) ↔ Disclosable (rulesOf disclosureKind bytes) P k
   -- "A credential is askable if it heads some disclosure rule."
   pub askable-iff : (k : ℕ) → Member k (askable (rulesOf disclosureKind bytes)) ↔ Askable (rulesOf disclosureKind bytes) k
+  pub askable-means : (k : ℕ)
+      → Askable (rulesOf disclosureKind bytes) k
+      ↔ ((j : ℕ) × ((j < wholeRecords bytes) × ((recordAt bytes j .kind ≡ disclosureKind) × (recordAt bytes j .rule .head ≡ k))))
   pub askable-credential : (k : ℕ) → Askable (rulesOf disclosureKind bytes) k → k ≤ lastCredential
   -- what is shown is disclosable; more is where more is shown; and what is disclosable and not shown is askable
   pub shown : (P : ℕ) → Subset P (disclosable (rulesOf disclosureKind bytes) P)

@@ -29,7 +29,7 @@ unfoldable pub _if_not_ : ℕ → List ℕ → List ℕ → List ℕ
 h if positive not negated =
     writeRecord (record { kind = accessKind; rule = record { head = h; positive = setOf positive; negated = setOf negated } })
 
--- a disclosure record: "disclosure 1 if 0" is `disclose 1 if (0 ∷ [])`, "disclosure 0 always" is `disclose 0 if []`
+-- a disclosure record: of "disclosure 0 always; 1 if 0" the first is `disclose 0 if []`, the second `disclose 1 if (0 ∷ [])`
 infix 10 disclose_if_
 unfoldable pub disclose_if_ : ℕ → List ℕ → List ℕ
 disclose h if positive =

@@ -6,6 +6,7 @@ pub mod LeastLaws
 pub mod StratifiedLaws
 pub mod LevelLaws
 pub mod LayoutLaws
+pub mod MeaningLaws
 pub mod LevelByLevelLaws
 pub mod LoopLaws
 pub mod TheoremsProof

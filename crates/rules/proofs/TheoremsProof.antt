@@ -6,11 +6,14 @@ use Rattle.rules.proofs.LayoutLaws.{one-of-level, same-stable}
 use Rattle.rules.proofs.LeastLaws.{closure-least, idle-closed}
 use Rattle.rules.proofs.LevelByLevelLaws.{level-by-level}
 use Rattle.rules.proofs.LevelLaws.{one-stable-any}
+use Rattle.rules.proofs.MeaningLaws.{closed-means, stable-means}
 use Rattle.rules.proofs.ReductLaws.{empty-body, reduct-every, stable-applied, two-sided}
 
 pub theorems : Theorems
 theorems = record {
   reducts = reduct-every;
+  closed-means = closed-means;
+  stable-means = stable-means;
   applied = stable-applied;
   two-sided = two-sided;
   empty-body = empty-body;

@@ -4,20 +4,31 @@ use mathlib.Core.Logic.{_↔_}
 use mathlib.Core.List.{List}
 use Prim.Native.Nat.{_<_, ℕ}
 use Rattle.atoms.specs.Sets.{Member, Subset, empty}
-use Rattle.rules.specs.LevelByLevel.{OneOf, SameRules, byLevel, levelByLevel, ofLevel}
+use Rattle.rules.specs.LevelByLevel.{OneOf, byLevel, levelByLevel, ofLevel}
 use Rattle.rules.specs.Model.{applies, closure, model, passBy}
 use Rattle.rules.specs.Rules.{Every, Headed, Rule, Stratified}
-use Rattle.rules.specs.Stable.{Closed, Least, OneStable, Stable, Unstruck, reduct}
+use Rattle.rules.specs.Stable.{Closed, Least, OneStable, Stable, reduct}
 
 -- the body of r holds in M: all of its positive part, and none of its negated part
 pub record BodyHolds (M : ℕ) (r : Rule) : Type 0 where
   pub positive : Subset (r .positive) M
-  pub negated : Unstruck M r
+  pub negated : (k : ℕ) → Member k (r .negated) → Member k M → ⊥
+
+-- X has C, and the head of each rule of whose positive part X has all and of whose negated part M has nothing
+pub record ClosedBeside (rs : List Rule) (C M X : ℕ) : Type 0 where
+  pub holds : Subset C X
+  pub heads : (r : Rule) → OneOf r rs → Subset (r .positive) X → ((k : ℕ) → Member k (r .negated) → Member k M → ⊥) → Member (r .head) X
 
 pub record Theorems : Type 1 where
   -- "strike each rule that negates an atom of M, then drop the negated parts of the others": what remains is this and nothing else
   pub reducts : (M : ℕ) (rs : List Rule) (P : Rule → Type 0)
-      → Every P (reduct M rs) ↔ Every (λ r. Unstruck M r → P (record { head = r .head; positive = r .positive; negated = empty })) rs
+      → Every P (reduct M rs)
+      ↔ Every (λ r. ((k : ℕ) → Member k (r .negated) → Member k M → ⊥) → P (record { head = r .head; positive = r .positive; negated = empty })) rs
+  -- "holds C and is closed under": it has the head of each rule whose positive part it has
+  pub closed-means : (rs : List Rule) (C S : ℕ)
+      → Closed rs C S ↔ (Subset C S × ((r : Rule) → OneOf r rs → Subset (r .positive) S → Member (r .head) S))
+  -- "M is stable if it equals the least set that holds C and is closed under what remains", from the rules alone
+  pub stable-means : (rs : List Rule) (C M : ℕ) → Stable rs C M ↔ (ClosedBeside rs C M M × ((X : ℕ) → ClosedBeside rs C M X → Subset M X))
   -- a stable set has the head of each rule whose body holds in it
   pub applied : (rs : List Rule) (C M : ℕ) → Stable rs C M → Every (λ r. BodyHolds M r → Member (r .head) M) rs
   -- "An atom may stand on both sides of a body; that rule never applies."
@@ -29,7 +40,7 @@ pub record Theorems : Type 1 where
   -- "just one stable set exists; that is the model", where the rules keep levels, whatever these are
   pub models : (lev : ℕ → ℕ) (rs : List Rule) → Every (Stratified lev) rs → (C : ℕ) → OneStable rs C (model rs C)
   -- "The same record may come twice.": the order of rules and their repetition do not change what is stable
-  pub orders : (rs qs : List Rule) → SameRules rs qs → (C M : ℕ) → Stable rs C M → Stable qs C M
+  pub orders : (rs qs : List Rule) → ((r : Rule) → OneOf r rs ↔ OneOf r qs) → (C M : ℕ) → Stable rs C M → Stable qs C M
   -- the rules of level l are those of the list on that level, and no others
   pub of-level : (lev : ℕ → ℕ) (l : ℕ) (rs : List Rule) (r : Rule) → OneOf r (ofLevel lev l rs) ↔ (OneOf r rs × (lev (r .head) ≡ l))
   -- one level after another gives the model, where all heads are on the levels below n
