@@ -4,11 +4,11 @@
     scripts/solver_vectors.py            write crates/vectors/stdin and crates/vectors/stdout
     scripts/solver_vectors.py --check    say whether these two files are what the script makes
 
-Needs `clingo` and `clasp` (Debian's package gringo; made with 5.4.1 and 3.3.5). The policies come from a fixed seed. For each one
-the access rules, with the credentials as facts, are a ground program, and so are the disclosure rules. Two solvers list all stable
-models of it: clingo, whose grounder settles such programs, and clasp, which gets the rules as they stand. The script stops unless
-each finds just one and both find the same. The expected sets are the solvers': the script has no reading of the model of its own.
-Last it prints to standard error how many policies have each shape.
+Needs `clingo` and `clasp` (Debian's packages gringo and clasp; made with 5.4.1 and 3.3.5). The policies come from a fixed seed. For
+each one the access rules, with the credentials as facts, are a ground program, and so are the disclosure rules. Two solvers list
+all stable models of it: clingo, whose grounder settles such programs, and clasp, which gets the rules as they stand. The script
+stops unless each finds just one and both find the same. The expected sets are the solvers': the script has no reading of the model
+of its own. It prints to standard error how many policies have each shape, and stops if one is rare.
 
 stdin, for each vector: 2 bytes of credentials, little-endian; 1 byte, the number of records; 18 bytes for each record.
 stdout: a line for each vector, as the program `vectors` prints it.
@@ -21,7 +21,8 @@ import sys
 
 ROOT = pathlib.Path(__file__).resolve().parent.parent
 SEED = 1
-VECTORS = 400
+VECTORS = 600
+LEAST = 5  # a shape that fewer vectors have is too rare to tell anything
 ACCESS, DISCLOSURE, BREACH = 1, 2, 63
 
 
@@ -110,6 +111,17 @@ def loop(draw, atoms):
     return rules
 
 
+def wide(draw, atoms):
+    """A rule with a long body: 3 to 8 credentials, now and then a derived atom, and up to 5 negated atoms."""
+    head = draw.one(derived(atoms) + [BREACH])
+    positive = draw.several(range(16), draw.between(3, 8))
+    if draw.chance(25):
+        positive += draw.several([atom for atom in derived(atoms) if level(atom) <= level(head)], 1)
+    others = [atom for atom in sorted(set(atoms).union(range(16))) if atom not in positive]
+    negated = draw.several([atom for atom in others if level(atom) < level(head)], draw.between(0, 5))
+    return [(ACCESS, head, tuple(sorted(positive)), tuple(sorted(negated)))]
+
+
 def ladder(draw, _atoms):
     """Disclosure of some credentials, each if the one before; the first one often always."""
     steps = draw.several(range(16), draw.between(2, 4))
@@ -121,17 +133,17 @@ def ladder(draw, _atoms):
 
 def policy_size(draw):
     which = draw.below(100)
-    if which < 4:
-        return 0
-    return draw.between(20, 30) if which < 10 else draw.between(1, 10)
+    if which < 6:
+        return 0 if which < 4 else draw.between(60, 120)
+    return draw.between(20, 30) if which < 12 else draw.between(1, 10)
 
 
 def policy(draw):
     atoms = universe(draw)
     size = policy_size(draw)
     records = []
-    for part in (chain, loop, ladder):
-        if size > 3 and draw.chance(45):
+    for part, percent in ((chain, 45), (loop, 45), (wide, 65), (ladder, 45)):
+        if size > 3 and draw.chance(percent):
             records += part(draw, atoms)
     while len(records) < size:
         if records and draw.chance(6):
@@ -143,13 +155,28 @@ def policy(draw):
     return draw.several(records, len(records))
 
 
-def credential_set(draw):
+def some_credentials(draw):
     """Half of the credentials or a quarter of them, as a rule; now and then none or all."""
     which = draw.below(100)
     if which < 10:
         return 0 if which < 5 else 0xFFFF
     half = draw.below(0x10000)
     return half if which < 55 else half & draw.below(0x10000)
+
+
+def credential_set(draw, records):
+    """Some credentials; often such that one rule's body has all that it asks for, or all but one."""
+    credentials = some_credentials(draw)
+    rules = [record for record in records if record[0] == ACCESS]
+    if rules and draw.chance(75):
+        longest = max(rules, key=lambda rule: len(rule[2]) + len(rule[3]))
+        _, _, positive, negated = longest if draw.chance(60) else draw.one(rules)
+        held = [atom for atom in positive if atom < 16]
+        credentials |= sum(1 << atom for atom in held)
+        credentials &= ~sum(1 << atom for atom in negated if atom < 16)
+        if draw.chance(50):
+            credentials ^= 1 << draw.one(held + [atom for atom in negated if atom < 16] or [0])
+    return credentials & 0xFFFF
 
 
 # The solver.
@@ -245,6 +272,17 @@ def holds(atoms, model):
     return [atom for atom in atoms if model >> atom & 1]
 
 
+def fires(rule, model):
+    _, _, positive, negated = rule
+    return holds(positive, model) == list(positive) and not holds(negated, model)
+
+
+def nearly(rule, model):
+    """Whether a single atom keeps a body from holding."""
+    _, _, positive, negated = rule
+    return len(positive) - len(holds(positive, model)) + len(holds(negated, model)) == 1
+
+
 def blocked(rule, model):
     """Whether it is by its negated atoms alone that a rule does not bring its head into the model."""
     _, head, positive, negated = rule
@@ -256,9 +294,9 @@ def blocked(rule, model):
 def several_passes(rules, credentials, model, level_of):
     """Whether some atom of the model waits, in each rule for it, for an atom of its level that only later rules bring."""
     ways = {}
-    for place, (_, head, positive, negated) in enumerate(rules):
-        if holds(positive, model) == list(positive) and not holds(negated, model):
-            ways.setdefault(head, []).append((place, positive))
+    for place, rule in enumerate(rules):
+        if fires(rule, model):
+            ways.setdefault(rule[1], []).append((place, rule[2]))
 
     def waits(head, place, positive):
         others = [atom for atom in positive if not credentials >> atom & 1 and level_of(atom) == level_of(head)]
@@ -273,13 +311,19 @@ def shapes(records, credentials, model, disclosable):
     pairs = stands_on(rules)
     loops = [atom for atom in range(64) if (atom, atom) in pairs]
     yield "0 records", not records
-    yield "20 to 30 records", len(records) >= 20
+    yield "20 to 59 records", 20 <= len(records) < 60
+    yield "60 and more records", len(records) >= 60
     yield "access rules", bool(rules)
     yield "disclosure rules", bool(others)
     yield "rules of both kinds", bool(rules and others)
     yield "a repeated record", len(set(records)) < len(records)
     yield "an empty body", any(not positive and not negated for _, _, positive, negated in records)
     yield "a two-sided body", any(set(positive) & set(negated) for _, _, positive, negated in records)
+    yield "5 and more positive atoms in a body", any(len(positive) >= 5 for _, _, positive, _ in rules)
+    yield "such a body that holds", any(len(rule[2]) >= 5 and fires(rule, model) for rule in rules)
+    yield "such a body that lacks one atom", any(len(rule[2]) >= 5 and nearly(rule, model) for rule in rules)
+    yield "4 and more negated atoms in a body", any(len(negated) >= 4 for _, _, _, negated in rules)
+    yield "such a body that holds, the positive part too", any(len(rule[3]) >= 4 and fires(rule, model) for rule in rules)
     yield "a negated atom", nots(rules) >= 1
     yield "3 or more nots one over the other", nots(rules) >= 3
     yield "5 or more nots one over the other", nots(rules) >= 5
@@ -302,7 +346,8 @@ def main():
     draw = Draw(SEED)
     given, expected, counts = b"", "", {}
     for place in range(VECTORS):
-        records, credentials = policy(draw), credential_set(draw)
+        records = policy(draw)
+        credentials = credential_set(draw, records)
         model = only_model(ground(records, ACCESS, credentials))
         disclosable = only_model(ground(records, DISCLOSURE, credentials))
         given += vector(records, credentials)
@@ -311,6 +356,8 @@ def main():
             counts[shape] = counts.get(shape, 0) + there
     for shape, count in counts.items():
         print(f"{count:4} of {VECTORS}: {shape}", file=sys.stderr)
+        if count < LEAST:
+            sys.exit(f"too few of them: {shape}")
     status = 0
     for name, made in (("stdin", given), ("stdout", expected.encode())):
         path = ROOT / "crates/vectors" / name
