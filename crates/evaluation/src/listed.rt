@@ -21,26 +21,24 @@ pub fn rules_of(policy: &[u8], kind: u8) -> Listed
     ensures { λ r. ⌜ (rulesIn (r .heads) (r .positive) (r .negated) 0 (r .count) ≡ rulesOf kind (now (policy .entry))) × (r .count ≤ 128) ⌝ }
 {
     let records = policy.len() / 18;
-    let mut heads = [0u8; 128];
-    let mut positive = [0u64; 128];
-    let mut negated = [0u64; 128];
-    let mut count: usize = 0;
+    let mut listed = Listed {
+        heads: [0u8; 128],
+        positive: [0u64; 128],
+        negated: [0u64; 128],
+        count: 0,
+    };
     let mut k: usize = 0;
     while k < records {
         let parsed = record_at(policy, k);
         // Each record is put at the next place, and counts there if it is of the kind.
-        heads[count] = parsed.head;
-        positive[count] = parsed.positive.bits;
-        negated[count] = parsed.negated.bits;
-        count = after(count, parsed.kind == kind);
+        let place = listed.count;
+        listed.heads[place] = parsed.head;
+        listed.positive[place] = parsed.positive.bits;
+        listed.negated[place] = parsed.negated.bits;
+        listed.count = after(place, parsed.kind == kind);
         k += 1;
     }
-    Listed {
-        heads,
-        positive,
-        negated,
-        count,
-    }
+    listed
 }
 
 // The place after this one, if this one is taken.

@@ -15,13 +15,13 @@ use Rattle.evaluation.proofs.listed.rules_of.Statement.{statement}
 use Rattle.evaluation.proofs.listed.rules_of.Tie as tie
 
 abbrev Inv-loop : tie.InvT-loop
-Inv-loop policy kind records heads₀ positive₀ negated₀ count₀ k₀ heads positive negated count k =
-    (count ≤ k) × ((k ≤ records)
-    × (((length heads ≡ 128) × ((length positive ≡ 128) × (length negated ≡ 128)))
-    × (rulesIn heads positive negated 0 count ++ left policy kind k records ≡ rulesOf kind policy)))
+Inv-loop policy kind records listed₀ k₀ listed k =
+    (listed .count ≤ k) × ((k ≤ records)
+    × (((length (listed .heads) ≡ 128) × ((length (listed .positive) ≡ 128) × (length (listed .negated) ≡ 128)))
+    × (rulesIn (listed .heads) (listed .positive) (listed .negated) 0 (listed .count) ++ left policy kind k records ≡ rulesOf kind policy)))
 
 abbrev μ-loop : tie.MeasureT-loop
-μ-loop policy kind records heads₀ positive₀ negated₀ count₀ k₀ heads positive negated count k = records - k
+μ-loop policy kind records listed₀ k₀ listed k = records - k
 
 loop-holds : tie.Need-loop-holds Inv-loop μ-loop
 loop-holds c = (omega arith, (omega arith, ((refl, (refl, refl)), listed-start (now (c .before .args .policy)) (c .before .args .kind) _ _ _)))
@@ -29,20 +29,20 @@ loop-holds c = (omega arith, (omega arith, ((refl, (refl, refl)), listed-start (
 record-at-requires : tie.Need-record-at-requires Inv-loop μ-loop
 record-at-requires c κs = omega arith
 
-array-write-heads : tie.Need-array-write-heads Inv-loop μ-loop
-array-write-heads c = search needs
+element-write-listed : tie.Need-element-write-listed Inv-loop μ-loop
+element-write-listed c = search needs
 
-mul-positive : tie.Need-mul-positive Inv-loop μ-loop
-mul-positive c = search needs
+mul-listed : tie.Need-mul-listed Inv-loop μ-loop
+mul-listed c = search needs
 
-array-write-positive : tie.Need-array-write-positive Inv-loop μ-loop
-array-write-positive c = search needs
+element-write-listed-2 : tie.Need-element-write-listed-2 Inv-loop μ-loop
+element-write-listed-2 c = search needs
 
-mul-negated : tie.Need-mul-negated Inv-loop μ-loop
-mul-negated c = search needs
+mul-listed-2 : tie.Need-mul-listed-2 Inv-loop μ-loop
+mul-listed-2 c = search needs
 
-array-write-negated : tie.Need-array-write-negated Inv-loop μ-loop
-array-write-negated c = search needs
+element-write-listed-3 : tie.Need-element-write-listed-3 Inv-loop μ-loop
+element-write-listed-3 c = search needs
 
 after-requires : tie.Need-after-requires Inv-loop μ-loop
 after-requires c κs = omega arith
@@ -65,7 +65,7 @@ loop-again c =
         (
           (simp length-set (fits .0), (simp length-set (fits .1 .0), simp length-set (fits .1 .1))),
           rw (c .after .ensures .0)
-              (listed-next (now (a .policy)) (a .kind) (l .k) _ (l .heads) (l .positive) (l .negated) (l .count) _ (l .inv .1 .1 .1)
+              (listed-next (now (a .policy)) (a .kind) (l .k) _ (l .listed .heads) (l .listed .positive) (l .listed .negated) (l .listed .count) _ (l .inv .1 .1 .1)
               (c .before .before .before .loop-test .taken) (recordOf (d .result)) (d .ensures) (omega arith) (omega arith) (omega arith)),
         ),
       ),
@@ -75,7 +75,7 @@ returns : tie.Need-returns Inv-loop μ-loop
 returns c =
     let a = c .before .before .before .args in
     let l = c .before .loop in
-    (listed-done (now (a .policy)) (a .kind) (l .k) _ (l .heads) (l .positive) (l .negated) (l .count) _ (l .inv .1 .1 .1) (c .loop-test .left), omega arith)
+    (listed-done (now (a .policy)) (a .kind) (l .k) _ (l .listed .heads) (l .listed .positive) (l .listed .negated) (l .listed .count) _ (l .inv .1 .1 .1) (c .loop-test .left), omega arith)
 
 pub rules-of-spec : {M : Type 1} → statement M
 rules-of-spec =
@@ -85,11 +85,11 @@ rules-of-spec =
     μ-loop
     loop-holds
     record-at-requires
-    array-write-heads
-    mul-positive
-    array-write-positive
-    mul-negated
-    array-write-negated
+    element-write-listed
+    mul-listed
+    element-write-listed-2
+    mul-listed-2
+    element-write-listed-3
     after-requires
     add-k
     loop-less
