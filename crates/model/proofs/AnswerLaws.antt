@@ -14,7 +14,7 @@ use Rattle.policy.specs.Theorems.{Tested}
 use Rattle.policy.specs.WrittenForm.{Refusal, WellFormed, at, refusalNumber}
 use Rattle.policy.proofs.PolicyLaws.{disclosure-heads, one-model}
 use Rattle.policy.proofs.TheoremsProof as policy
-use Rattle.model.specs.Answers.{disclosableAnswer, modelAnswer, refused, given, unlessRefused}
+use Rattle.model.specs.Answers.{Answer, disclosableAnswer, modelAnswer, refused, given, unlessRefused}
 use Rattle.model.specs.Disclosure.{disclosable}
 use Rattle.model.specs.Theorems.{Gives, GivesDisclosable, GivesModel}
 use Rattle.model.proofs.DisclosureLaws as D
@@ -47,6 +47,11 @@ gives bytes b Right S right only = go (policyRefusal bytes) (policy.theorems .te
       refusals = λ g. (λ e. let x : some f ≡ some g = cc in t .refuses g .0 x, λ h. let x = t .refuses g .1 h in cc);
       numbers = λ g e. let x : some f ≡ some g = cc in numbered (some f) n g x;
     }
+
+-- the defined answer has its meaning, and the bytes are as they were
+pub answered : (bytes : List ℕ) (defined : Answer) (Means : Answer → Type 0) → Means defined → (a : Answer) → a ≡ defined
+    → (a ≡ defined) × (Means a × (bytes ≡ bytes))
+answered bytes defined Means m a e = (e, (subst Means (sym e) m, refl))
 
 -- the two ways that an answer is given
 module _ (bytes : List ℕ) (S : ℕ) where

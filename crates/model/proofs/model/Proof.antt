@@ -1,22 +1,14 @@
 -- `model::model` meets its contract: by the two answers of the policy's test. Assumes nothing.
-use mathlib.Core.Path.{_∙_, _≡_, ap, refl, subst, sym}
+use mathlib.Core.Path.{_∙_, ap, sym}
 use denote.Ref.{now}
 use borrow.Author.Needs.{needs}
 use Rattle.atoms.proofs.ByteLaws.{slice-bytes}
 use Rattle.policy.specs.Types.{checkedOf}
-use Rattle.model.specs.Answers.{Answer, modelAnswer}
+use Rattle.model.specs.Answers.{modelAnswer}
 use Rattle.model.specs.Theorems.{GivesModel}
-use Rattle.model.proofs.AnswerLaws.{answers-refused, answers-set, gives-model}
+use Rattle.model.proofs.AnswerLaws.{answered, answers-refused, answers-set, gives-model}
 use Rattle.model.proofs.model.Statement.{statement}
 use Rattle.model.proofs.model.Tie as tie
-
--- the defined answer has its meaning, and the bytes are as they were
-answered : (c : tie.After-shared-slice-known) (a : Answer) → (let bytes = now (c .before .args .policy) in
-    a ≡ modelAnswer bytes (c .before .args .credentials) → (a ≡ modelAnswer bytes (c .before .args .credentials)) × (GivesModel bytes (c .before .args .credentials) a × (bytes ≡ bytes)))
-answered c a e =
-    let bytes = now (c .before .args .policy) in
-    let P = c .before .args .credentials in
-    (e, (subst (GivesModel bytes P) (sym e) (gives-model bytes (slice-bytes bytes (c .shared-slice-known .given)) P), refl))
 
 check-requires : tie.Need-check-requires
 check-requires c κs = search needs
@@ -34,15 +26,19 @@ returns : tie.Need-returns
 unfolding modelAnswer
 returns c =
     let k = c .before .before .before .before in
+    let bytes = now (k .before .args .policy) in
+    let means = gives-model bytes (slice-bytes bytes (k .shared-slice-known .given)) (k .before .args .credentials) in
     let accepted = sym (c .before .before .before .check .ensures .0) ∙ ap checkedOf (c .before .enum-told .given .1) in
-    answered k _ (answers-set (now (k .before .args .policy)) _ accepted _ (c .model-of .ensures))
+    answered bytes _ (GivesModel bytes (k .before .args .credentials)) means _ (answers-set bytes _ accepted _ (c .model-of .ensures))
 
 returns-2 : tie.Need-returns-2
 unfolding modelAnswer
 returns-2 c =
     let k = c .before .before .before .before in
+    let bytes = now (k .before .args .policy) in
+    let means = gives-model bytes (slice-bytes bytes (k .shared-slice-known .given)) (k .before .args .credentials) in
     let refused = sym (c .before .before .before .check .ensures .0) ∙ ap checkedOf (c .before .checked .given .1) in
-    answered k _ (answers-refused (now (k .before .args .policy)) _ _ refused)
+    answered bytes _ (GivesModel bytes (k .before .args .credentials)) means _ (answers-refused bytes _ _ refused)
 
 pub model-spec : {M : Type 1} → statement M
 model-spec = tie.close (tie.spec check-requires enum-known-checked enum-told model-of-requires returns returns-2)
