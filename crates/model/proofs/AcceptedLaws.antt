@@ -46,7 +46,6 @@ module _ (bytes : List ℕ) (b : Bytes bytes) (w : WellFormed bytes) where
       let low = disclosure-heads bytes b w in
       let rs = rulesOf disclosureKind bytes in
       record {
-        one-model = one-model bytes b w;
         empty-body = applies-always;
         disclosable-iff = D.disclosable-iff rs low;
         askable-iff = D.askable-iff rs low;

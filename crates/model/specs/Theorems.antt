@@ -9,7 +9,7 @@ use Rattle.atoms.specs.Sets.{Member, Subset, empty}
 use Rattle.rules.specs.LevelByLevel.{OneOf}
 use Rattle.rules.specs.Model.{model}
 use Rattle.rules.specs.Rules.{Rule}
-use Rattle.rules.specs.Stable.{Closed, Least, OneStable, Stable}
+use Rattle.rules.specs.Stable.{Closed, Least, Stable}
 use Rattle.records.specs.Records.{accessKind, disclosureKind, recordAt, rulesOf, wholeRecords}
 use Rattle.policy.specs.WrittenForm.{PolicyRefused, Refusal, WellFormed, refusalNumber}
 use Rattle.model.specs.Answers.{Answer, disclosableAnswer, modelAnswer, refused, given}
@@ -35,8 +35,6 @@ GivesDisclosable bytes P = Gives bytes (Least (Closed (rulesOf disclosureKind by
 
 -- What holds of every policy of the written form.
 pub record OfWellFormed (bytes : List ℕ) : Type 0 where
-  -- "just one stable set exists; that is the model"
-  pub one-model : (C : ℕ) → OneStable (rulesOf accessKind bytes) C (model (rulesOf accessKind bytes) C)
   -- "An empty body always applies."
   pub empty-body : (C : ℕ) (r : Rule) → OneOf r (rulesOf accessKind bytes) → r .positive ≡ empty → r .negated ≡ empty
       → Member (r .head) (model (rulesOf accessKind bytes) C)

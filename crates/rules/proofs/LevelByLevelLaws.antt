@@ -14,14 +14,7 @@ use Rattle.rules.proofs.LayoutLaws.{ofLevel-every}
 use Rattle.rules.proofs.LeastLaws.{closure-closed, closure-within}
 use Rattle.rules.proofs.LevelLaws.{one-stable-any}
 use Rattle.rules.proofs.ListLaws.{every-imp, every-imp₂}
-use Rattle.rules.proofs.ReductLaws.{reduct-every, reduct-headed}
-
--- X is closed under r; and it is if M leaves r
-abbrev Keeps : ℕ → Rule → Type 0
-Keeps X r = Subset (r .positive) X → Member (r .head) X
-
-abbrev Left : ℕ → ℕ → Rule → Type 0
-Left M X r = Unstruck M r → Keeps X r
+use Rattle.rules.proofs.ReductLaws.{LeftRespects, Respects, reduct-every, reduct-headed}
 
 module _ (lev : ℕ → ℕ) (rs : List Rule) (strata : Every (Stratified lev) rs) (C : ℕ) where
   -- r is on a level below l; on level l
@@ -34,8 +27,8 @@ module _ (lev : ℕ → ℕ) (rs : List Rule) (strata : Every (Stratified lev) r
   -- M is stable as far as the levels below l go
   record Settled (l M : ℕ) : Type 0 where
     holds : Subset C M
-    respects : Every (Below l (Left M M)) rs
-    least : (X : ℕ) → Subset C X → Every (Below l (Left M X)) rs → Subset M X
+    respects : Every (Below l (LeftRespects M M)) rs
+    least : (X : ℕ) → Subset C X → Every (Below l (LeftRespects M X)) rs → Subset M X
 
   module _ (l M : ℕ) (s : Settled l M) where
     qs : List Rule
@@ -71,15 +64,15 @@ module _ (lev : ℕ → ℕ) (rs : List Rule) (strata : Every (Stratified lev) r
     unstruck : (r : Rule) → Stratified lev r → lev (r .head) ≤ l → Unstruck M r → Unstruck N r
     unstruck r h i u k m n = u k m (low k n (omega (arith, h .levelled .negated k m)))
 
-    respected : Every (Below (suc l) (Left N N)) rs
+    respected : Every (Below (suc l) (LeftRespects N N)) rs
     unfolding qs
     respected =
-        every-imp₂ (λ r. Below l (Left M M) r × Here l (Left M N) r) (Stratified lev) (Below (suc l) (Left N N)) step rs
-        (every-imp₂ (Below l (Left M M)) (Here l (Left M N)) (λ r. Below l (Left M M) r × Here l (Left M N) r) (λ r b e. (b, e)) rs (s .respects)
-        (ofLevel-every lev l rs (Left M N) .0 (reduct-every M qs (Keeps N) .0 (closed .respects))))
+        every-imp₂ (λ r. Below l (LeftRespects M M) r × Here l (LeftRespects M N) r) (Stratified lev) (Below (suc l) (LeftRespects N N)) step rs
+        (every-imp₂ (Below l (LeftRespects M M)) (Here l (LeftRespects M N)) (λ r. Below l (LeftRespects M M) r × Here l (LeftRespects M N) r) (λ r b e. (b, e)) rs (s .respects)
+        (ofLevel-every lev l rs (LeftRespects M N) .0 (reduct-every M qs (Respects N) .0 (closed .respects))))
         strata
       where
-        step : (r : Rule) → Below l (Left M M) r × Here l (Left M N) r → Stratified lev r → Below (suc l) (Left N N) r
+        step : (r : Rule) → Below l (LeftRespects M M) r × Here l (LeftRespects M N) r → Stratified lev r → Below (suc l) (LeftRespects N N) r
         step r p h i u f = go (eq-or-lt-of-le (le-of-suc-le-suc i))
           where
             v : Unstruck M r
@@ -89,16 +82,16 @@ module _ (lev : ℕ → ℕ) (rs : List Rule) (strata : Every (Stratified lev) r
             go (inl e) = p .1 e v f
             go (inr j) = closed .holds (r .head) (p .0 j v (λ k m. low k (f k m) (omega (arith, h .levelled .positive k m))))
 
-    least : (X : ℕ) → Subset C X → Every (Below (suc l) (Left N X)) rs → Subset N X
-    least X c h = within (λ k. Member k X) old (every-imp₂ (Below (suc l) (Left N X)) (Stratified lev) (Here l (Left M X)) here rs h strata)
+    least : (X : ℕ) → Subset C X → Every (Below (suc l) (LeftRespects N X)) rs → Subset N X
+    least X c h = within (λ k. Member k X) old (every-imp₂ (Below (suc l) (LeftRespects N X)) (Stratified lev) (Here l (LeftRespects M X)) here rs h strata)
       where
-        below : (r : Rule) → Below (suc l) (Left N X) r → Stratified lev r → Below l (Left M X) r
+        below : (r : Rule) → Below (suc l) (LeftRespects N X) r → Stratified lev r → Below l (LeftRespects M X) r
         below r p t i u = p (omega arith) (unstruck r t (omega arith) u)
 
         old : Subset M X
-        old = s .least X c (every-imp₂ (Below (suc l) (Left N X)) (Stratified lev) (Below l (Left M X)) below rs h strata)
+        old = s .least X c (every-imp₂ (Below (suc l) (LeftRespects N X)) (Stratified lev) (Below l (LeftRespects M X)) below rs h strata)
 
-        here : (r : Rule) → Below (suc l) (Left N X) r → Stratified lev r → Here l (Left M X) r
+        here : (r : Rule) → Below (suc l) (LeftRespects N X) r → Stratified lev r → Here l (LeftRespects M X) r
         here r p t e u = p (omega arith) (unstruck r t (omega arith) u)
 
     next : Settled (suc l) (settle (ofLevel lev l rs) M)
@@ -118,10 +111,10 @@ module _ (lev : ℕ → ℕ) (rs : List Rule) (strata : Every (Stratified lev) r
     one = record {
       holds = s .holds;
       respects =
-          reduct-every M rs (Keeps M) .1
-          (every-imp₂ (Below n (Left M M)) (λ r. lev (r .head) < n) (Left M M) (λ r p i. p i) rs (s .respects) top);
+          reduct-every M rs (Respects M) .1
+          (every-imp₂ (Below n (LeftRespects M M)) (λ r. lev (r .head) < n) (LeftRespects M M) (λ r p i. p i) rs (s .respects) top);
     };
-    least = λ X c. s .least X (c .holds) (every-imp (Left M X) (Below n (Left M X)) (λ r h i. h) rs (reduct-every M rs (Keeps X) .0 (c .respects)));
+    least = λ X c. s .least X (c .holds) (every-imp (LeftRespects M X) (Below n (LeftRespects M X)) (λ r h i. h) rs (reduct-every M rs (Respects X) .0 (c .respects)));
   }
 
   pub level-by-level : (n : ℕ) → Every (λ r. lev (r .head) < n) rs → levelByLevel (byLevel lev 0 n rs) C ≡ model rs C
@@ -133,6 +126,6 @@ module _ (lev : ℕ → ℕ) (rs : List Rule) (strata : Every (Stratified lev) r
       start : Settled 0 C
       start = record {
         holds = λ k m. m;
-        respects = every-imp (Stratified lev) (Below 0 (Left C C)) (λ r h i. absurd (not-suc-le-zero i)) rs strata;
+        respects = every-imp (Stratified lev) (Below 0 (LeftRespects C C)) (λ r h i. absurd (not-suc-le-zero i)) rs strata;
         least = λ X c _. c;
       }

@@ -11,6 +11,13 @@ use Rattle.rules.specs.Stable.{Stable, Unstruck, positiveOnly, reduct}
 use Rattle.rules.specs.Theorems.{BodyHolds}
 use Rattle.rules.proofs.ListLaws.{every-imp}
 
+-- X is closed under r; and it is where M leaves r
+abbrev pub Respects : ℕ → Rule → Type 0
+Respects X r = Subset (r .positive) X → Member (r .head) X
+
+abbrev pub LeftRespects : ℕ → ℕ → Rule → Type 0
+LeftRespects M X r = Unstruck M r → Respects X r
+
 pub reduct-every : (M : ℕ) (rs : List Rule) (P : Rule → Type 0) → Every P (reduct M rs) ↔ Every (λ r. Unstruck M r → P (positiveOnly r)) rs
 unfolding reduct
 reduct-every M [] P = (λ h. tt, λ h. tt)
@@ -43,7 +50,7 @@ reduct-positive M (r ∷ rs) h =
 pub stable-applied : (rs : List Rule) (C M : ℕ) → Stable rs C M → Every (λ r. BodyHolds M r → Member (r .head) M) rs
 stable-applied rs C M s =
     every-imp _ (λ r. BodyHolds M r → Member (r .head) M) (λ r h b. h (b .negated) (b .positive)) rs
-    (reduct-every M rs (λ r. Subset (r .positive) M → Member (r .head) M) .0 (s .one .respects))
+    (reduct-every M rs (Respects M) .0 (s .one .respects))
 
 pub two-sided : (r : Rule) (k : ℕ) → Member k (r .positive) → Member k (r .negated) → (M : ℕ) → BodyHolds M r → ⊥
 two-sided r k p n M b = b .negated k n (b .positive k p)

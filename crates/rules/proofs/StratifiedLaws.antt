@@ -5,7 +5,7 @@ use mathlib.Core.List.{List, [], _∷_}
 use Prim.Native.Nat.{_<_, _≤_, suc, zero, ℕ}
 use native.Mathlib.Nat.{not-suc-le-zero}
 use native.Mathlib.Omega.{arith}
-use Rattle.atoms.specs.Sets.{Member, Subset, bit, disjoint}
+use Rattle.atoms.specs.Sets.{Member, bit, disjoint}
 use Rattle.atoms.proofs.SetLaws.{disjoint-true, same-bit, true-disjoint}
 use Rattle.rules.specs.Model.{closure, consequences, times}
 use Rattle.rules.specs.Rules.{Every, Headed, Levelled, Rule}
@@ -13,11 +13,7 @@ use Rattle.rules.specs.Stable.{Closed, OneStable, positiveOnly, reduct}
 use Rattle.rules.proofs.ClosureLaws.{times-fixed, times-in, times-out}
 use Rattle.rules.proofs.LeastLaws.{closure-closed, closure-within, is-stable, stable-is}
 use Rattle.rules.proofs.ListLaws.{every-imp}
-use Rattle.rules.proofs.ReductLaws.{reduct-headed}
-
--- S is closed under rules
-abbrev Respects : ℕ → List Rule → Type 0
-Respects S rs = Every (λ r. Subset (r .positive) S → Member (r .head) S) rs
+use Rattle.rules.proofs.ReductLaws.{Respects, reduct-headed}
 
 -- `lev` gives each atom a level. No positive atom of a rule is above the head, every negated one is below it, and no head is above `top`.
 
@@ -43,7 +39,7 @@ module _ (lev : ℕ → ℕ) (top : ℕ) where
 
   -- what one derives at the levels up to i, the other does: each rule that A leaves keeps what is up to level i in X,
   -- if X is closed under what B leaves
-  left-keeps : (i A B X : ℕ) → Agree i A B → (rs : List Rule) → Every (Ranked lev top) rs → Respects X (reduct B rs)
+  left-keeps : (i A B X : ℕ) → Agree i A B → (rs : List Rule) → Every (Ranked lev top) rs → Every (Respects X) (reduct B rs)
       → Every (λ r. ((k : ℕ) → Member k (r .positive) → lev k ≤ i → Member k X) → lev (r .head) ≤ i → Member (r .head) X) (reduct A rs)
   unfolding reduct
   left-keeps i A B X g [] h q = tt
@@ -52,8 +48,8 @@ module _ (lev : ℕ → ℕ) (top : ℕ) where
       Goal : Rule → Type 0
       Goal r = ((k : ℕ) → Member k (r .positive) → lev k ≤ i → Member k X) → lev (r .head) ≤ i → Member (r .head) X
 
-      go : (a b : Bool) → disjoint (r .negated) A ≡ a → disjoint (r .negated) B ≡ b → Respects X (cond b (positiveOnly r ∷ reduct B rs) (reduct B rs))
-          → (Respects X (reduct B rs) → Every Goal (reduct A rs)) → Every Goal (cond a (positiveOnly r ∷ reduct A rs) (reduct A rs))
+      go : (a b : Bool) → disjoint (r .negated) A ≡ a → disjoint (r .negated) B ≡ b → Every (Respects X) (cond b (positiveOnly r ∷ reduct B rs) (reduct B rs))
+          → (Every (Respects X) (reduct B rs) → Every Goal (reduct A rs)) → Every Goal (cond a (positiveOnly r ∷ reduct A rs) (reduct A rs))
       go true true e f q ih = (λ hq l. q .0 (λ k m. hq k m (omega (arith, h .0 .levelled .positive k m))), ih (q .1))
       go true false e f q ih = (λ hq l. absurd (true≢false (sym (same-struck i A B g r (h .0) l e) ∙ f)), ih q)
       go false true e f q ih = ih (q .1)

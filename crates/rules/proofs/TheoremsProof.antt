@@ -2,11 +2,11 @@
 use Rattle.rules.specs.Model.{applies}
 use Rattle.rules.specs.Theorems.{Theorems}
 use Rattle.rules.proofs.ClosureLaws.{closureBy-fixed, closureBy-pass, pass-grows}
-use Rattle.rules.proofs.LayoutLaws.{one-of-level, same-stable}
+use Rattle.rules.proofs.LayoutLaws.{one-of-level}
 use Rattle.rules.proofs.LeastLaws.{closure-least, idle-closed}
 use Rattle.rules.proofs.LevelByLevelLaws.{level-by-level}
 use Rattle.rules.proofs.LevelLaws.{one-stable-any}
-use Rattle.rules.proofs.MeaningLaws.{closed-means, stable-means}
+use Rattle.rules.proofs.MeaningLaws.{closed-means, same-stable, stable-means}
 use Rattle.rules.proofs.ReductLaws.{empty-body, reduct-every, stable-applied, two-sided}
 
 pub theorems : Theorems
