@@ -3,7 +3,7 @@ use mathlib.Core.Path.{_∙_, _≡_, ap, refl, subst, sym}
 use mathlib.Core.Logic.{_↔_, _≢_, _⊎_, inl, inr}
 use mathlib.Core.Bool.{Bool, cond, false, true}
 use Prim.Native.Nat.{_%_, _*_, _+_, _-_, _/_, _<_, _^_, _≤_, max, min, suc, zero, ℕ}
-use lib.Arith.{half-le}
+use lib.Arith.{bin-ind, half-le}
 use lib.Bits.{and-le-l, and-shr, and-step, bitAnd, bitOr, or-shr, or-step}
 use lib.Dec.{leb, leb→le}
 use lib.Pow.{pow-mono, pow-pos, shr-shr}
@@ -170,6 +170,41 @@ difference-iff a b k = (
   λ m. (omega (arith, bit-difference a b k, bit-lt a k), λ n. omega (arith, bit-difference a b k, bit-lt a k)),
   λ p. omega (arith, bit-difference a b k, p .0, not-in b k (p .1)),
 )
+
+-- ---- laws of the operations
+
+pub union-empty : (a : ℕ) → union a 0 ≡ a
+union-empty a = ext (λ k. bit-union a 0 k ∙ omega (arith, bit-empty k))
+
+pub union-least : (a b c : ℕ) → Subset a c → Subset b c → Subset (union a b) c
+union-least a b c f g k m = go (union-cases a b k m)
+  where
+    go : Member k a ⊎ Member k b → Member k c
+    go (inl i) = f k i
+    go (inr i) = g k i
+
+pub union-difference : (a b : ℕ) → union a (difference b a) ≡ union b a
+union-difference a b =
+    ext (λ k. bit-union a (difference b a) k ∙ ap (λ (x : ℕ). max (bit a k) x) (bit-difference b a k) ∙ omega (arith, bit-union b a k, bit-lt a k, bit-lt b k))
+
+-- nothing of a is outside b
+pub intersection-all : (a b : ℕ) → difference a b ≡ 0 → intersection a b ≡ a
+intersection-all a b e =
+    ext
+    (λ k.
+    let z : bit (difference a b) k ≡ 0 = ap (λ (x : ℕ). bit x k) e ∙ bit-empty k in
+    bit-intersection a b k ∙ omega (arith, bit-difference a b k))
+
+-- a set that is not empty has an atom
+pub inhabited : (s : ℕ) → s ≢ 0 → (k : ℕ) × Member k s
+inhabited = bin-ind (λ (s : ℕ). s ≢ 0 → (k : ℕ) × Member k s) (λ n. absurd (n refl)) step
+  where
+    step : (s : ℕ) → (s / 2 ≢ 0 → (k : ℕ) × Member k (s / 2)) → s ≢ 0 → (k : ℕ) × Member k s
+    step s ih n = go (s % 2) refl
+      where
+        go : (x : ℕ) → s % 2 ≡ x → (k : ℕ) × Member k s
+        go zero e = let r = ih (λ h. n (omega arith)) in (suc (r .0), bit-next s (r .0) ∙ r .1)
+        go (suc x) e = (0, bit-first s ∙ omega arith)
 
 -- ---- the tests
 

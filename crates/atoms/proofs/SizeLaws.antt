@@ -3,7 +3,7 @@ use mathlib.Core.Path.{_∙_, _≡_, ap, refl, subst, sym}
 use mathlib.Core.Logic.{_⊎_, inl, inr}
 use Prim.Native.Nat.{_%_, _+_, _/_, _<_, _^_, _≤_, suc, zero, ℕ}
 use lib.Arith.{lt-one}
-use lib.Count.{ones as countOnes, ones-step, onesIn}
+use lib.Count.{ones as countOnes, ones-le as count-le, ones-step, onesIn}
 use lib.Pow.{pow-pos, shr-shr}
 use native.Mathlib.Nat.{add-le-add, div-lt-iff-lt-mul, eq-or-lt-of-le, le-of-suc-le-suc, not-suc-le-zero, one-mul, zero-lt-suc}
 use native.Mathlib.Omega.{arith}
@@ -51,7 +51,7 @@ unfolding size
 size-most a = onesIn-most 64 a
 
 -- b has an atom more than a
-size-lt : (a b k : ℕ) → k < 64 → Subset a b → Member k b → bit a k ≡ 0 → size a < size b
+pub size-lt : (a b k : ℕ) → k < 64 → Subset a b → Member k b → bit a k ≡ 0 → size a < size b
 unfolding size
 size-lt a b k l f m z = onesIn-lt 64 a b k l f m z
 
@@ -96,3 +96,7 @@ size-more a b h f n = go (eq-or-lt-of-le (size-le a b f))
     go : (size a ≡ size b) ⊎ (size a < size b) → size a < size b
     go (inl e) = absurd (n (size-same a b h f (omega arith)))
     go (inr l) = l
+
+-- a set of credentials has at most 16
+pub size-credentials : (s : ℕ) → s < 2 ^ 16 → size s ≤ 16
+size-credentials s l = subst (λ (x : ℕ). x ≤ 16) (sym (size-is s (omega arith))) (count-le 16 s l)

@@ -8,6 +8,9 @@ lastCredential = 15
 abbrev pub firstDerived : ℕ
 firstDerived = 16
 
+abbrev pub lastDerived : ℕ
+lastDerived = 62
+
 -- the breach mark: what the field calls the head of an integrity constraint
 abbrev pub violation : ℕ
 violation = 63

@@ -6,6 +6,8 @@ ghost use Rattle.atoms.specs.Sets.{difference, disjoint, intersection, m
 pub const LAST_CREDENTIAL: u8 = 15;
 
 pub const FIRST_DERIVED: u8 = 16;
+
+pub const LAST_DERIVED: u8 = 62;
 // The breach mark: the head of an integrity constraint.
 pub const VIOLATION: u8 = 63;
 

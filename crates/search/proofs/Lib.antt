@@ -1,0 +1,3 @@
+-- The laws of preference.
+pub mod PreferLaws
+pub mod SubsetLaws

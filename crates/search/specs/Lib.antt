@@ -1,0 +1,5 @@
+-- The order of preference and the preferred question, in the order of reading.
+pub mod Preference
+pub mod Question
+pub mod Types
+pub mod Theorems

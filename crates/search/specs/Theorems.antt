@@ -1,0 +1,1 @@
+-- The theorems of the search. Assumes nothing.

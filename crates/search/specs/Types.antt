@@ -1,0 +1,1 @@
+-- What the program's answer means. Assumes nothing.

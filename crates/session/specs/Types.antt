@@ -1,0 +1,64 @@
+-- What the program's types mean: document 01's number and values for each case. Assumes nothing.
+use Prim.Native.Nat.{ℕ}
+use Rattle.policy.specs.Types as policy
+use Rattle.search.specs.Question as Q
+use Rattle.session.specs.Endings as E
+use Rattle.session.specs.Refusals as R
+use Rattle.session.specs.Rounds as O
+use Rattle.session.specs.Sessions as S
+use Rattle.session.specs.declared.Opened.{Opened}
+use Rattle.session.specs.declared.Opened.the-variants as opened
+use Rattle.session.specs.declared.Outcome.{Outcome}
+use Rattle.session.specs.declared.Phase.{Phase}
+use Rattle.session.specs.declared.Phase.the-variants.{Closed, Fresh, Waiting}
+use Rattle.session.specs.declared.Session.{Session}
+use Rattle.session.specs.declared.Verdict.{Verdict}
+use Rattle.session.specs.declared.Verdict.the-variants.{Denied, Granted}
+use Rattle.session.specs.declared.answer.Answer.{Answer}
+use Rattle.session.specs.declared.answer.Answer.the-variants.{Ends, Refused}
+use Rattle.session.specs.declared.answer.Ending.{Ending}
+use Rattle.session.specs.declared.answer.Ending.the-variants.{Ask, Deny, Grant}
+use Rattle.session.specs.declared.refusal.Refusal.{Refusal}
+use Rattle.session.specs.declared.refusal.Refusal.the-variants as refusal
+
+-- "7: request outside 16 to 62", "8: session not sound.", "9: round in a sound closed session."
+abbrev pub refusalOf : Refusal → R.Refusal
+refusalOf (refusal.Policy f) = R.ofPolicy (policy.refusalOf f)
+refusalOf refusal.Request = R.number 7
+refusalOf refusal.Unsound = R.number 8
+refusalOf refusal.Closed = R.number 9
+
+abbrev pub verdictOf : Verdict → S.Verdict
+verdictOf Granted = S.granted
+verdictOf Denied = S.denied
+
+abbrev pub questionOf : ℕ → Q.Question
+questionOf q = record { asks = q }
+
+abbrev pub phaseOf : Phase → S.Phase
+phaseOf Fresh = S.fresh
+phaseOf (Waiting q) = S.waiting (questionOf q)
+phaseOf (Closed v) = S.closed (verdictOf v)
+
+abbrev pub sessionOf : Session → S.Session
+sessionOf s = record { request = s .request; shown = s .shown; declined = s .declined; count = s .count; phase = phaseOf (s .phase) }
+
+abbrev pub endingOf : Ending → E.Ending
+endingOf Grant = E.grant
+endingOf Deny = E.deny
+endingOf (Ask q) = E.ask (questionOf q)
+
+abbrev pub answerOf : Answer → O.Answer
+answerOf (Ends e) = O.ends (endingOf e)
+answerOf (Refused f) = O.refuse (refusalOf f)
+
+abbrev pub outcomeOf : Outcome → O.Outcome
+outcomeOf o = record { answer = answerOf (o .answer); session = sessionOf (o .session) }
+
+abbrev pub openedOf : Opened → O.Opened
+openedOf (opened.Fresh s) = O.gives (sessionOf s)
+openedOf (opened.Refused f) = O.refuses (refusalOf f)
+
+-- the set that a round takes
+abbrev pub moveOf : ℕ → O.Move
+moveOf p = record { shows = p }
