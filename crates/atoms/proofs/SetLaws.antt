@@ -4,7 +4,7 @@ use mathlib.Core.Logic.{_↔_, _≢_, _⊎_, inl, inr}
 use mathlib.Core.Bool.{Bool, cond, false, true}
 use Prim.Native.Nat.{_%_, _*_, _+_, _-_, _/_, _<_, _^_, _≤_, max, min, suc, zero, ℕ}
 use lib.Arith.{bin-ind, half-le}
-use lib.Bits.{and-le-l, and-shr, and-step, bitAnd, bitOr, or-shr, or-step}
+use lib.Bits.{and-le-l, and-le-r, and-shr, and-step, bitAnd, bitOr, or-shr, or-step}
 use lib.Dec.{leb, leb→le}
 use lib.Pow.{pow-mono, pow-pos, shr-shr}
 use native.Mathlib.Decide.{decLt, ℕ-discrete}
@@ -227,6 +227,10 @@ true-disjoint a b f =
     (subset-antisym
     (λ k m. absurd (let p = intersection-iff a b k .0 m in f k (p .0) (p .1)))
     (empty-subset (intersection a b)))
+
+-- a subset is no larger a number
+pub subset-le : (a b : ℕ) → Subset a b → a ≤ b
+subset-le a b f = subst (λ (x : ℕ). x ≤ b) (eqb-true _ _ (true-subset a b f)) (and-le-r a b)
 
 -- ---- the set of one atom
 

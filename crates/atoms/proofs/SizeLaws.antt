@@ -10,17 +10,22 @@ use native.Mathlib.Omega.{arith}
 use Rattle.atoms.specs.Sets.{Member, Subset, bit, size}
 use Rattle.atoms.proofs.SetLaws.{bit-empty, bit-first, bit-next, ext, in-or-out, member-low, not-in, subset-antisym}
 
--- ---- a set's size
+-- ---- a set's size, by halves
 
-half-subset : (a b : ℕ) → Subset a b → Subset (a / 2) (b / 2)
+pub half-subset : (a b : ℕ) → Subset a b → Subset (a / 2) (b / 2)
 half-subset a b f k m = sym (bit-next b k) ∙ f (suc k) (bit-next a k ∙ m)
 
-odd-subset : (a b : ℕ) → Subset a b → a % 2 ≤ b % 2
+pub odd-subset : (a b : ℕ) → Subset a b → a % 2 ≤ b % 2
 odd-subset a b f = go (a % 2) refl
   where
     go : (x : ℕ) → a % 2 ≡ x → a % 2 ≤ b % 2
     go zero e = omega arith
     go (suc x) e = let h : b % 2 ≡ 1 = sym (bit-first b) ∙ f 0 (bit-first a ∙ omega arith) in omega arith
+
+-- and back
+pub whole-subset : (a b : ℕ) → a % 2 ≤ b % 2 → Subset (a / 2) (b / 2) → Subset a b
+whole-subset a b l f zero m = bit-first b ∙ (let o : a % 2 ≡ 1 = sym (bit-first a) ∙ m in omega arith)
+whole-subset a b l f (suc k) m = bit-next b k ∙ f k (sym (bit-next a k) ∙ m)
 
 onesIn-le : (d a b : ℕ) → Subset a b → onesIn d a ≤ onesIn d b
 unfolding onesIn

@@ -1,0 +1,33 @@
+use borrow.Author.Needs.{needs}
+use Rattle.session.proofs.ending.phase_after.Statement.{statement}
+use Rattle.session.proofs.ending.phase_after.Tie as tie
+use Rattle.session.proofs.ending.phase_after.Reads as reads
+use Rattle.session.proofs.ending.phase_after.Lts as lts
+
+-- src/ending.rt:74:40
+enum-told : tie.Need-enum-told
+enum-told c = search needs
+
+-- src/ending.rt:75:39
+enum-told-2 : tie.Need-enum-told-2
+enum-told-2 c = search needs
+
+-- src/ending.rt:76:21
+enum-known-ending : tie.Need-enum-known-ending
+enum-known-ending c = search needs
+
+-- src/ending.rt:70:1
+returns : tie.Need-returns
+returns c = ?
+
+-- src/ending.rt:70:1
+returns-2 : tie.Need-returns-2
+returns-2 c = ?
+
+-- src/ending.rt:70:1
+returns-3 : tie.Need-returns-3
+returns-3 c = ?
+
+pub phase-after-spec : {M : Type 1} → statement M
+phase-after-spec =
+    tie.close (tie.spec enum-told enum-told-2 enum-known-ending returns returns-2 returns-3)

@@ -1,0 +1,78 @@
+// How an accepted round ends.
+ghost use mathlib.Core.Path.{_≡_};
+ghost use Rattle.atoms.specs.Sets.{difference};
+ghost use Rattle.policy.specs.WrittenForm.{WellFormed};
+ghost use Rattle.session.specs.Endings.{ending, obtainable, policyOf};
+ghost use Rattle.session.specs.Rounds.{phaseAfter};
+ghost use Rattle.session.specs.Sessions.{Service};
+ghost use Rattle.session.specs.Types.{endingOf, phaseOf};
+use crate::Phase;
+use crate::Verdict;
+use crate::answer::Ending;
+use evaluation::layout::access_rules;
+use evaluation::levels::unlocks;
+use model::disclosable_of;
+use atoms::AtomSet;
+use search::Found;
+use search::preferred;
+
+// Under an accepted policy, once these credentials are shown and declined.
+pub(crate) fn ending(policy: &[u8], request: u16, shown: u16, declined: u16) -> Ending
+    requires { ⌜ WellFormed (now policy) × Service request ⌝ }
+    ensures { λ r. ⌜ endingOf r ≡ ending (policyOf (now (policy .entry))) request shown declined ⌝ }
+{
+    let rules = access_rules(policy);
+    let service = request as u8;
+    let credentials = AtomSet::credentials(shown);
+    if unlocks(
+        &rules.heads,
+        &rules.positive,
+        &rules.negated,
+        &rules.starts,
+        service,
+        credentials,
+    ) {
+        return Ending::Grant;
+    }
+    let within = obtainable(policy, shown, declined);
+    let found = preferred(
+        &rules.heads,
+        &rules.positive,
+        &rules.negated,
+        &rules.starts,
+        service,
+        shown,
+        within,
+    );
+    match found {
+        Found::Set(asked) => Ending::Ask(asked),
+        Found::Nothing => Ending::Deny,
+    }
+}
+
+// What may be asked: disclosable, and neither shown nor declined.
+fn obtainable(policy: &[u8], shown: u16, declined: u16) -> u16
+    requires { ⌜ WellFormed (now policy) ⌝ }
+    ensures { λ r. ⌜ r ≡ obtainable (policyOf (now (policy .entry))) shown declined ⌝ }
+{
+    let disclosed = disclosable_of(policy, shown);
+    without(without(disclosed, shown), declined)
+}
+
+// The credentials of a set that are not in another.
+pub(crate) fn without(set: u16, other: u16) -> u16
+    ensures { λ r. ⌜ r ≡ difference set other ⌝ }
+{
+    set - (set & other)
+}
+
+// Closed with a verdict, or waiting on the question.
+pub(crate) fn phase_after(ending: Ending) -> Phase
+    ensures { λ r. ⌜ phaseOf r ≡ phaseAfter (endingOf ending) ⌝ }
+{
+    match ending {
+        Ending::Grant => Phase::Closed(Verdict::Granted),
+        Ending::Deny => Phase::Closed(Verdict::Denied),
+        Ending::Ask(asked) => Phase::Waiting(asked),
+    }
+}

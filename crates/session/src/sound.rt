@@ -1,0 +1,71 @@
+// Which sessions are sound.
+ghost use mathlib.Core.Path.{_≡_};
+ghost use Rattle.session.specs.Sessions.{countTest, isClosed, isService, isSound, phaseTest, question, questionTest};
+ghost use Rattle.session.specs.Types.{phaseOf, questionOf, sessionOf};
+use crate::Phase;
+use crate::Session;
+use atoms::AtomSet;
+use atoms::FIRST_DERIVED;
+use atoms::LAST_DERIVED;
+
+// 16 to 62.
+pub(crate) fn is_service(request: u16) -> bool
+    ensures { λ r. ⌜ r ≡ isService request ⌝ }
+{
+    FIRST_DERIVED as u16 <= request && request <= LAST_DERIVED as u16
+}
+
+pub(crate) fn is_sound(session: Session) -> bool
+    ensures { λ r. ⌜ r ≡ isSound (sessionOf session) ⌝ }
+{
+    is_service(session.request) && phase_fits(session)
+}
+
+// What each phase asks of the sets and the count.
+fn phase_fits(session: Session) -> bool
+    ensures { λ r. ⌜ r ≡ phaseTest (sessionOf session) (phaseOf (session .phase)) ⌝ }
+{
+    let phase = session.phase;
+    match phase {
+        Phase::Fresh => session.shown == 0 && session.declined == 0 && session.count == 0,
+        Phase::Waiting(asked) => question_fits(session, asked) && count_fits(session),
+        Phase::Closed(_) => count_fits(session),
+    }
+}
+
+// Not empty, and nothing of it shown or declined.
+fn question_fits(session: Session, asked: u16) -> bool
+    ensures { λ r. ⌜ r ≡ questionTest (sessionOf session) (questionOf asked) ⌝ }
+{
+    asked != 0 && asked & (session.shown | session.declined) == 0
+}
+
+// 1 to 1 plus the ones in the shown set joined with the declined set.
+fn count_fits(session: Session) -> bool
+    ensures { λ r. ⌜ r ≡ countTest (sessionOf session) ⌝ }
+{
+    let met = AtomSet::credentials(session.shown | session.declined);
+    let most = 1 + met.count();
+    1 <= session.count && session.count as u32 <= most
+}
+
+pub(crate) fn is_closed(phase: Phase) -> bool
+    ensures { λ r. ⌜ r ≡ isClosed (phaseOf phase) ⌝ }
+{
+    match phase {
+        Phase::Fresh => false,
+        Phase::Waiting(_) => false,
+        Phase::Closed(_) => true,
+    }
+}
+
+// What is asked: nothing unless waiting.
+pub(crate) fn question(phase: Phase) -> u16
+    ensures { λ r. ⌜ questionOf r ≡ question (phaseOf phase) ⌝ }
+{
+    match phase {
+        Phase::Fresh => 0,
+        Phase::Waiting(asked) => asked,
+        Phase::Closed(_) => 0,
+    }
+}
