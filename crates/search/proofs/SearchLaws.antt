@@ -7,20 +7,23 @@ use mathlib.Core.Option.{Option, none, some}
 use Prim.Native.Nat.{_<_, _^_, _≤_, suc, ℕ}
 use lib.Dec.{eqb, eqb→eq}
 use native.Mathlib.Omega.{arith}
-use Rattle.atoms.specs.Sets.{Member, Subset, bit, size}
+use Rattle.atoms.specs.LittleEndian.{Bytes}
+use Rattle.atoms.specs.Sets.{Subset, size, union}
 use Rattle.atoms.proofs.SetLaws.{bit-high, empty-subset, member-low, subset-le}
 use Rattle.atoms.proofs.SizeLaws.{low-lt, size-le, size-same}
 use Rattle.atoms.proofs.TestLaws.{and-true, both-true, eqb-true, not-T-false, true-eqb}
 use Rattle.rules.specs.Rules.{Every}
 use Rattle.rules.proofs.ListLaws.{every-map, every-unmap}
+use Rattle.records.specs.Records.{accessKind, rulesOf}
+use Rattle.policy.specs.WrittenForm.{WellFormed}
+use Rattle.evaluation.specs.Arrays.{LaidOut}
+use Rattle.evaluation.specs.Unlocking.{grants, unlocks}
+use Rattle.evaluation.proofs.AccessLaws.{laid-model}
 use Rattle.search.specs.Preference.{better, lexBefore, preferred, subsets}
-use Rattle.search.specs.Question.{Question, candidates, keys, noQuestion}
-use Rattle.search.specs.Search.{FirstOfSize, NextSubset, NoneBelow, passesAt}
-use Rattle.search.proofs.PreferLaws.{Before, First, decides-before, less, lex-connected, more, order, Order, preferred-none, preferred-some, same}
+use Rattle.search.specs.Question.{Question, candidates, chosen, keys, noQuestion, opensWith}
+use Rattle.search.specs.Search.{FirstOfSize, NextSubset, NoneBelow, opensIn, passesAt}
+use Rattle.search.proofs.PreferLaws.{Before, Order, decides-before, less, lex-connected, more, order, preferred-none, preferred-some, same}
 use Rattle.search.proofs.SubsetLaws.{subsets-all, subsets-within}
-
-asking : ℕ → Question
-asking M = record { asks = M }
 
 -- ---- the preferred one of the subsets of D
 
@@ -174,3 +177,13 @@ module _ (test : Question → Bool) (D : ℕ) (l : D < 2 ^ 16) where
   -- no size is left
   pub smaller-all : (n : ℕ) → NoneSmaller test D n → size D < n → none ≡ preferred keys test (candidates D)
   smaller-all n h m = sym (none-preferred test D l (λ q f. h (q .asks) f (omega (arith, size-le (q .asks) D f))))
+
+-- ---- rules in arrays, of an accepted policy
+
+-- what they unlock is what the policy's rules unlock
+pub chosen-laid : (bytes : List ℕ) → Bytes bytes → WellFormed bytes → (h p m s : List ℕ) → LaidOut (rulesOf accessKind bytes) h p m s → (r P D : ℕ)
+    → preferred keys (opensIn h p m s r P) (candidates D) ≡ chosen (rulesOf accessKind bytes) r P D
+unfolding chosen unlocks
+chosen-laid bytes b w h p m s l r P D =
+    preferred-same (opensIn h p m s r P) (opensWith (rulesOf accessKind bytes) r P)
+    (λ q. ap (grants r) (laid-model bytes b w h p m s l (union P (q .asks)))) (candidates D)

@@ -1,0 +1,2 @@
+-- The laws of sessions and rounds.
+pub mod ProgramLaws

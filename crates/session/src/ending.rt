@@ -1,18 +1,20 @@
 // How an accepted round ends.
 ghost use mathlib.Core.Path.{_≡_};
+ghost use mathlib.Core.Bool.{false};
 ghost use Rattle.atoms.specs.Sets.{difference};
 ghost use Rattle.policy.specs.WrittenForm.{WellFormed};
-ghost use Rattle.session.specs.Endings.{ending, obtainable, policyOf};
+ghost use Rattle.search.specs.Types.{foundOf};
+ghost use Rattle.session.specs.Endings.{conclude, ending, obtainable, policyOf};
 ghost use Rattle.session.specs.Rounds.{phaseAfter};
 ghost use Rattle.session.specs.Sessions.{Service};
 ghost use Rattle.session.specs.Types.{endingOf, phaseOf};
 use crate::Phase;
 use crate::Verdict;
 use crate::answer::Ending;
+use atoms::AtomSet;
 use evaluation::layout::access_rules;
 use evaluation::levels::unlocks;
 use model::disclosable_of;
-use atoms::AtomSet;
 use search::Found;
 use search::preferred;
 
@@ -44,6 +46,13 @@ pub(crate) fn ending(policy: &[u8], request: u16, shown: u16, declined: u16) -> 
         shown,
         within,
     );
+    concluded(found)
+}
+
+// The preferred set is asked; where there is none, deny.
+fn concluded(found: Found) -> Ending
+    ensures { λ r. ⌜ endingOf r ≡ conclude false (foundOf found) ⌝ }
+{
     match found {
         Found::Set(asked) => Ending::Ask(asked),
         Found::Nothing => Ending::Deny,

@@ -115,6 +115,7 @@ fn open_round(session: Session, policy: &[u8], shown: u16) -> Outcome
     let asked = question(phase);
     let shown_now = session.shown | shown;
     let declined = session.declined | without(asked, shown);
+    let count = session.count + 1;
     let ended = ending(policy, request, shown_now, declined);
     Outcome {
         answer: Answer::Ends(ended),
@@ -122,7 +123,7 @@ fn open_round(session: Session, policy: &[u8], shown: u16) -> Outcome
             request,
             shown: shown_now,
             declined,
-            count: session.count + 1,
+            count,
             phase: phase_after(ended),
         },
     }

@@ -1,6 +1,6 @@
 // Which sessions are sound.
 ghost use mathlib.Core.Path.{_≡_};
-ghost use Rattle.session.specs.Sessions.{countTest, isClosed, isService, isSound, phaseTest, question, questionTest};
+ghost use Rattle.session.specs.Sessions.{countTest, fresh, isClosed, isService, isSound, phaseTest, question, questionTest, waiting};
 ghost use Rattle.session.specs.Types.{phaseOf, questionOf, sessionOf};
 use crate::Phase;
 use crate::Session;
@@ -27,10 +27,29 @@ fn phase_fits(session: Session) -> bool
 {
     let phase = session.phase;
     match phase {
-        Phase::Fresh => session.shown == 0 && session.declined == 0 && session.count == 0,
-        Phase::Waiting(asked) => question_fits(session, asked) && count_fits(session),
+        Phase::Fresh => is_untouched(session),
+        Phase::Waiting(asked) => waiting_fits(session, asked),
         Phase::Closed(_) => count_fits(session),
     }
+}
+
+// Nothing shown, nothing declined, no round.
+fn is_untouched(session: Session) -> bool
+    ensures { λ r. ⌜ r ≡ phaseTest (sessionOf session) fresh ⌝ }
+{
+    if session.shown != 0 {
+        return false;
+    }
+    if session.declined != 0 {
+        return false;
+    }
+    session.count == 0
+}
+
+fn waiting_fits(session: Session, asked: u16) -> bool
+    ensures { λ r. ⌜ r ≡ phaseTest (sessionOf session) (waiting (questionOf asked)) ⌝ }
+{
+    question_fits(session, asked) && count_fits(session)
 }
 
 // Not empty, and nothing of it shown or declined.

@@ -22,21 +22,17 @@ Inv-loop heads positive negated starts request shown within size candidate₀ ca
 abbrev μ-loop : tie.MeasureT-loop
 μ-loop heads positive negated starts request shown within size candidate₀ candidate = within - candidate
 
--- src/lib.rt:74:5
 loop-holds : tie.Need-loop-holds Inv-loop μ-loop
 loop-holds c =
     let a = c .args in
     (empty-subset (a .within), none-first (opensIn (now (a .heads)) (now (a .positive)) (now (a .negated)) (now (a .starts)) (a .request) (a .shown)) (a .within) (a .size))
 
--- src/lib.rt:75:12
 passes-requires : tie.Need-passes-requires Inv-loop μ-loop
 passes-requires c κs = search needs
 
--- src/lib.rt:85:13
 returns : tie.Need-returns Inv-loop μ-loop
 returns c = (c .before .before .loop .inv .0, (sym (c .before .passes .ensures) ∙ c .if1 .taken, c .before .before .loop .inv .1))
 
--- src/lib.rt:88:13
 returns-2 : tie.Need-returns-2 Inv-loop μ-loop
 returns-2 c =
     let a = c .before .before .before .before .args in
@@ -45,17 +41,14 @@ returns-2 c =
     (a .within) (a .size) (l .candidate) (c .if2 .taken) (l .inv .1) (c .before .before .passes .result)
     (c .before .before .passes .ensures) (c .before .if1 .left)
 
--- src/lib.rt:90:9
 next-subset-requires : tie.Need-next-subset-requires Inv-loop μ-loop
 next-subset-requires c κs = search needs
 
--- src/lib.rt:74:5
 loop-less : tie.Need-loop-less Inv-loop μ-loop
 loop-less c =
     let next = c .next-subset in
     omega (arith, next .ensures .above, subset-le _ _ (next .ensures .inside))
 
--- src/lib.rt:74:5
 loop-again : tie.Need-loop-again Inv-loop μ-loop
 loop-again c =
     let a = c .before .before .before .before .before .args in

@@ -12,15 +12,12 @@ use Rattle.atoms.proofs.AtomSet.count.Reads as count-reads
 use Rattle.atoms.proofs.AtomSet.credentials.Reads as credentials-reads
 use Rattle.evaluation.proofs.levels.unlocks.Reads as unlocks-reads
 
--- src/lib.rt:109:16
 credentials-requires : tie.Need-credentials-requires
 credentials-requires c κs = search needs
 
--- src/lib.rt:109:9
 count-requires : tie.Need-count-requires
 count-requires c κs = search needs
 
--- src/lib.rt:111:9
 returns : tie.Need-returns
 returns c =
     let a = c .before .before .before .args in
@@ -28,11 +25,9 @@ returns c =
     passes-not (opensIn (now (a .heads)) (now (a .positive)) (now (a .negated)) (now (a .starts)) (a .request) (a .shown))
     (a .size) (a .candidate) (n .result) (n .ensures ∙ ap size (c .before .before .credentials .ensures)) (c .if1 .taken)
 
--- src/lib.rt:113:9
 credentials-requires-2 : tie.Need-credentials-requires-2
 credentials-requires-2 c κs = search needs
 
--- src/lib.rt:114:5
 unlocks-requires : tie.Need-unlocks-requires
 unlocks-requires c κs = search needs
 
@@ -41,7 +36,6 @@ unlocked : (c : tie.After-unlocks) → (let a = c .before .before .before .befor
     c .unlocks .result ≡ opensIn (now (a .heads)) (now (a .positive)) (now (a .negated)) (now (a .starts)) (a .request) (a .shown) (record { asks = a .candidate }))
 unlocked c = rw (← c .before .credentials2 .ensures) (c .unlocks .ensures)
 
--- src/lib.rt:95:1
 returns-2 : tie.Need-returns-2
 returns-2 c =
     let a = c .before .before .before .before .before .args in

@@ -24,15 +24,12 @@ Inv-loop heads positive negated starts request shown within most n₀ n =
 abbrev μ-loop : tie.MeasureT-loop
 μ-loop heads positive negated starts request shown within most n₀ n = suc most - n
 
--- src/lib.rt:37:16
 credentials-requires : tie.Need-credentials-requires Inv-loop μ-loop
 credentials-requires c κs = search needs
 
--- src/lib.rt:37:9
 count-requires : tie.Need-count-requires Inv-loop μ-loop
 count-requires c κs = search needs
 
--- src/lib.rt:39:5
 loop-holds : tie.Need-loop-holds Inv-loop μ-loop
 loop-holds c =
     let a = c .before .before .args in
@@ -43,18 +40,15 @@ loop-holds c =
       (a .within) within (c .before .before .pre .1),
     )
 
--- src/lib.rt:40:13
 first-of-size-requires : tie.Need-first-of-size-requires Inv-loop μ-loop
 first-of-size-requires c κs = search needs
 
 enum-told : tie.Need-enum-told Inv-loop μ-loop
 enum-told c = search needs
 
--- src/lib.rt:51:13
 enum-told-2 : tie.Need-enum-told-2 Inv-loop μ-loop
 enum-told-2 c = search needs
 
--- src/lib.rt:51:13
 returns : tie.Need-returns Inv-loop μ-loop
 returns c =
     let start = c .before .before .before .before .before .before .before in
@@ -64,15 +58,12 @@ returns c =
     smaller-found (opensIn (now (a .heads)) (now (a .positive)) (now (a .negated)) (now (a .starts)) (a .request) (a .shown))
     (a .within) (start .fits .within .fits) (l .size) (l .inv .1) (foundOf (first .result)) (first .ensures) _ (ap foundOf (c .enum-told2 .given .1))
 
--- src/lib.rt:53:9
 add-size : tie.Need-add-size Inv-loop μ-loop
 add-size c = record { fits = omega (arith, c .before .before .before .before .loop .inv .0, size-most (c .before .before .before .before .before .before .before .args .within)) }
 
--- src/lib.rt:39:5
 loop-less : tie.Need-loop-less Inv-loop μ-loop
 loop-less c = omega arith
 
--- src/lib.rt:39:5
 loop-again : tie.Need-loop-again Inv-loop μ-loop
 loop-again c =
     let start = c .before .before .before .before .before .before .before in
@@ -86,7 +77,6 @@ loop-again c =
       (a .within) (start .fits .within .fits) (l .size) (l .inv .1) (foundOf (first .result)) (first .ensures) (ap foundOf (c .enum-told .given .1))),
     )
 
--- src/lib.rt:23:1
 returns-2 : tie.Need-returns-2 Inv-loop μ-loop
 returns-2 c =
     let start = c .before .before .before .before in

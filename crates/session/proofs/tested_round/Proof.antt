@@ -1,3 +1,10 @@
+-- `session::tested_round` meets its contract: the session is tested by 7, 8 and 9 in turn. Assumes nothing.
+use mathlib.Core.Path.{_∙_, sym}
+use borrow.Author.Tests.{not-false, not-true}
+use denote.Ref.{now}
+use Rattle.session.specs.Endings.{policyOf}
+use Rattle.session.specs.Types.{moveOf, outcomeOf, sessionOf}
+use Rattle.session.proofs.ProgramLaws.{refused-closed, refused-request, refused-unsound, worked-out}
 use borrow.Author.Needs.{needs}
 use Rattle.session.proofs.tested_round.Statement.{statement}
 use Rattle.session.proofs.tested_round.Tie as tie
@@ -9,49 +16,64 @@ use Rattle.session.proofs.sound.is_closed.Reads as is-closed-reads
 use Rattle.session.proofs.sound.is_service.Reads as is-service-reads
 use Rattle.session.proofs.sound.is_sound.Reads as is-sound-reads
 
--- src/lib.rt:94:9
 is-service-requires : tie.Need-is-service-requires
 is-service-requires c κs = search needs
 
--- src/lib.rt:95:9
 refused-requires : tie.Need-refused-requires
 refused-requires c κs = search needs
 
--- src/lib.rt:95:9
 returns : tie.Need-returns
-returns c = ?
+returns c =
+    let a = c .before .before .before .before .args in
+    let service = c .before .before .is-service in
+    refused-request (policyOf (now (a .policy))) (sessionOf (a .session)) (moveOf (a .shown)) (outcomeOf (c .refused .result))
+    (sym (service .ensures) ∙ not-true (service .result) (c .before .if1 .taken)) (c .refused .ensures)
 
--- src/lib.rt:97:9
 is-sound-requires : tie.Need-is-sound-requires
 is-sound-requires c κs = search needs
 
--- src/lib.rt:98:9
 refused-requires-2 : tie.Need-refused-requires-2
 refused-requires-2 c κs = search needs
 
--- src/lib.rt:98:9
 returns-2 : tie.Need-returns-2
-returns-2 c = ?
+returns-2 c =
+    let a = c .before .before .before .before .before .before .args in
+    let service = c .before .before .before .before .is-service in
+    let sound = c .before .before .is-sound in
+    refused-unsound (policyOf (now (a .policy))) (sessionOf (a .session)) (moveOf (a .shown)) (outcomeOf (c .refused2 .result))
+    (sym (service .ensures) ∙ not-false (service .result) (c .before .before .before .if1 .left))
+    (sym (sound .ensures) ∙ not-true (sound .result) (c .before .if2 .taken)) (c .refused2 .ensures)
 
--- src/lib.rt:101:8
 is-closed-requires : tie.Need-is-closed-requires
 is-closed-requires c κs = search needs
 
--- src/lib.rt:102:9
 refused-requires-3 : tie.Need-refused-requires-3
 refused-requires-3 c κs = search needs
 
--- src/lib.rt:102:9
 returns-3 : tie.Need-returns-3
-returns-3 c = ?
+returns-3 c =
+    let a = c .before .before .before .before .before .before .before .before .args in
+    let service = c .before .before .before .before .before .before .is-service in
+    let sound = c .before .before .before .before .is-sound in
+    refused-closed (policyOf (now (a .policy))) (sessionOf (a .session)) (moveOf (a .shown)) (outcomeOf (c .refused3 .result))
+    (sym (service .ensures) ∙ not-false (service .result) (c .before .before .before .before .before .if1 .left))
+    (sym (sound .ensures) ∙ not-false (sound .result) (c .before .before .before .if2 .left)) (sym (c .before .before .is-closed .ensures) ∙ c .before .if3 .taken)
+    (c .refused3 .ensures)
 
--- src/lib.rt:104:5
 open-round-requires : tie.Need-open-round-requires
-open-round-requires c κs = ?
+open-round-requires c κs =
+    let sound = c .before .before .before .is-sound in
+    (c .before .before .before .before .before .before .before .pre, (sym (sound .ensures) ∙ not-false (sound .result) (c .before .before .if2 .left), sym (c .before .is-closed .ensures) ∙ c .if3 .left))
 
--- src/lib.rt:89:1
 returns-4 : tie.Need-returns-4
-returns-4 c = ?
+returns-4 c =
+    let a = c .before .before .before .before .before .before .before .before .args in
+    let service = c .before .before .before .before .before .before .is-service in
+    let sound = c .before .before .before .before .is-sound in
+    worked-out (policyOf (now (a .policy))) (sessionOf (a .session)) (moveOf (a .shown)) (outcomeOf (c .open-round .result))
+    (sym (service .ensures) ∙ not-false (service .result) (c .before .before .before .before .before .if1 .left))
+    (sym (sound .ensures) ∙ not-false (sound .result) (c .before .before .before .if2 .left)) (sym (c .before .before .is-closed .ensures) ∙ c .before .if3 .left)
+    (c .open-round .ensures)
 
 pub tested-round-spec : {M : Type 1} → statement M
 tested-round-spec =

@@ -4,11 +4,9 @@ use Rattle.search.proofs.subset.next_subset.Tie as tie
 use Rattle.search.proofs.subset.next_subset.Reads as reads
 use Rattle.search.proofs.subset.next_subset.Lts as lts
 
--- src/subset.rt:11:6
 add-result : tie.Need-add-result
 add-result c = record { fits = next-subset 16 (c .args .of) (c .args .subset) (c .fits .of .fits) (c .pre .0) (c .pre .1) .small }
 
--- src/subset.rt:7:1
 returns : tie.Need-returns
 returns c = next-subset 16 (c .args .of) (c .args .subset) (c .fits .of .fits) (c .pre .0) (c .pre .1) .next
 

@@ -1,3 +1,7 @@
+-- `session::Session::open` meets its contract: the request is tested. Assumes nothing.
+use mathlib.Core.Path.{_∙_, sym}
+use borrow.Author.Tests.{not-false, not-true}
+use Rattle.session.proofs.ProgramLaws.{opens-fresh, opens-refused}
 use borrow.Author.Needs.{needs}
 use Rattle.session.proofs.Session.open.Statement.{statement}
 use Rattle.session.proofs.Session.open.Tie as tie
@@ -5,17 +9,18 @@ use Rattle.session.proofs.Session.open.Reads as reads
 use Rattle.session.proofs.Session.open.Lts as lts
 use Rattle.session.proofs.sound.is_service.Reads as is-service-reads
 
--- src/lib.rt:63:13
 is-service-requires : tie.Need-is-service-requires
 is-service-requires c κs = search needs
 
--- src/lib.rt:64:13
 returns : tie.Need-returns
-returns c = ?
+returns c =
+    let v = c .before .is-service in
+    opens-refused (c .before .before .args .request) (sym (v .ensures) ∙ not-true (v .result) (c .if1 .taken))
 
--- src/lib.rt:60:5
 returns-2 : tie.Need-returns-2
-returns-2 c = ?
+returns-2 c =
+    let v = c .before .is-service in
+    opens-fresh (c .before .before .args .request) (sym (v .ensures) ∙ not-false (v .result) (c .if1 .left))
 
 pub open-spec : {M : Type 1} → statement M
 open-spec = tie.close (tie.spec is-service-requires returns returns-2)

@@ -1,3 +1,9 @@
+-- `session::Session::round` meets its contract: by the two answers of the policy's test. Assumes nothing.
+use mathlib.Core.Path.{_∙_, ap, refl, sym}
+use denote.Ref.{now}
+use Rattle.policy.specs.Types.{checkedOf}
+use Rattle.session.specs.Types.{moveOf, outcomeOf, sessionOf}
+use Rattle.session.proofs.ProgramLaws.{round-tested, round-untested}
 use borrow.Author.Needs.{needs}
 use Rattle.session.proofs.Session.round.Statement.{statement}
 use Rattle.session.proofs.Session.round.Tie as tie
@@ -7,33 +13,38 @@ use Rattle.policy.proofs.check.Reads as check-reads
 use Rattle.session.proofs.refused.Reads as refused-reads
 use Rattle.session.proofs.tested_round.Reads as tested-round-reads
 
--- src/lib.rt:80:13
 check-requires : tie.Need-check-requires
 check-requires c κs = search needs
 
--- src/lib.rt:81:30
 enum-known-checked : tie.Need-enum-known-checked
 enum-known-checked c = search needs
 
--- src/lib.rt:82:13
 enum-told : tie.Need-enum-told
 enum-told c = search needs
 
--- src/lib.rt:82:13
 tested-round-requires : tie.Need-tested-round-requires
-tested-round-requires c κs = ?
+tested-round-requires c κs = c .before .before .check .ensures .1 .0 .accepts .0 (ap checkedOf (c .enum-told .given .1))
 
--- src/lib.rt:82:13
 returns : tie.Need-returns
-returns c = ?
+returns c =
+    let a = c .before .before .before .before .before .args in
+    (
+      round-tested (now (a .policy)) (sessionOf (a .self)) (moveOf (a .shown)) (outcomeOf (c .tested-round .result))
+      (sym (c .before .before .before .check .ensures .0) ∙ ap checkedOf (c .before .enum-told .given .1)) (c .tested-round .ensures),
+      refl,
+    )
 
--- src/lib.rt:84:9
 refused-requires : tie.Need-refused-requires
 refused-requires c κs = search needs
 
--- src/lib.rt:76:5
 returns-2 : tie.Need-returns-2
-returns-2 c = ?
+returns-2 c =
+    let a = c .before .before .before .before .before .before .args in
+    (
+      round-untested (now (a .policy)) (sessionOf (a .self)) (moveOf (a .shown)) (outcomeOf (c .refused .result)) _
+      (sym (c .before .before .before .before .check .ensures .0) ∙ ap checkedOf (c .before .before .checked .given .1)) (c .refused .ensures),
+      refl,
+    )
 
 pub round-spec : {M : Type 1} → statement M
 round-spec =

@@ -1,3 +1,9 @@
+-- `session::ending::ending` meets its contract: the rules in arrays unlock what the policy's rules unlock. Assumes nothing.
+use mathlib.Core.Path.{_∙_}
+use denote.Ref.{now}
+use Rattle.atoms.proofs.ByteLaws.{slice-bytes}
+use Rattle.search.specs.Types.{foundOf}
+use Rattle.session.proofs.ProgramLaws.{ends-found, ends-grant, locked-alone}
 use borrow.Author.Needs.{needs}
 use Rattle.session.proofs.ending.ending.Statement.{statement}
 use Rattle.session.proofs.ending.ending.Tie as tie
@@ -7,51 +13,67 @@ use Rattle.atoms.proofs.AtomSet.credentials.Reads as credentials-reads
 use Rattle.evaluation.proofs.layout.access_rules.Reads as access-rules-reads
 use Rattle.evaluation.proofs.levels.unlocks.Reads as unlocks-reads
 use Rattle.search.proofs.preferred.Reads as preferred-reads
+use Rattle.session.proofs.ending.concluded.Reads as concluded-reads
 use Rattle.session.proofs.ending.obtainable.Reads as obtainable-reads
 
--- src/ending.rt:24:17
 access-rules-requires : tie.Need-access-rules-requires
 access-rules-requires c κs = search needs
 
--- src/ending.rt:25:19
 cast-service : tie.Need-cast-service
 cast-service c = search needs
 
--- src/ending.rt:26:9
 credentials-requires : tie.Need-credentials-requires
 credentials-requires c κs = search needs
 
--- src/ending.rt:27:8
 unlocks-requires : tie.Need-unlocks-requires
 unlocks-requires c κs = search needs
 
--- src/ending.rt:35:9
 returns : tie.Need-returns
-returns c = ?
+returns c =
+    let known = c .before .before .before .before .before .before .before .before .before in
+    let a = known .before .args in
+    let bytes = now (a .policy) in
+    let rules = c .before .before .before .before .before .before .before .before .access-rules in
+    let u = c .before .unlocks in
+    ends-grant bytes (slice-bytes bytes (known .shared-slice-known .given)) (known .before .pre .0) (rules .result .heads) (rules .result .positive)
+    (rules .result .negated) (rules .result .starts) (rules .ensures) (a .request) (a .shown) (a .declined) _
+    (c .before .before .before .before .before .before .before .credentials .ensures) (u .result) (u .ensures) (c .if1 .taken)
 
--- src/ending.rt:37:9
 obtainable-requires : tie.Need-obtainable-requires
 obtainable-requires c κs = search needs
 
--- src/ending.rt:38:9
 preferred-requires : tie.Need-preferred-requires
-preferred-requires c κs = ?
+preferred-requires c κs =
+    let known = c .before .before .before .before .before .before .before .before .before .before .before .before .before .before .before in
+    let a = known .before .args in
+    let bytes = now (a .policy) in
+    let rules = c .before .before .before .before .before .before .before .before .before .before .before .before .before .before .access-rules in
+    let u = c .before .before .before .before .before .before .before .unlocks in
+    (
+      rules .ensures .ordered,
+      locked-alone bytes (slice-bytes bytes (known .shared-slice-known .given)) (known .before .pre .0) (rules .result .heads) (rules .result .positive)
+      (rules .result .negated) (rules .result .starts) (rules .ensures) (a .request) (a .shown) (a .declined) _
+      (c .before .before .before .before .before .before .before .before .before .before .before .before .before .credentials .ensures) (u .result) (u .ensures)
+      (c .before .before .before .before .before .before .if1 .left),
+    )
 
--- src/ending.rt:48:20
-enum-known-found : tie.Need-enum-known-found
-enum-known-found c = search needs
+concluded-requires : tie.Need-concluded-requires
+concluded-requires c κs = search needs
 
--- src/ending.rt:49:27
-enum-told : tie.Need-enum-told
-enum-told c = search needs
-
--- src/ending.rt:20:1
 returns-2 : tie.Need-returns-2
-returns-2 c = ?
-
--- src/ending.rt:20:1
-returns-3 : tie.Need-returns-3
-returns-3 c = ?
+returns-2 c =
+    let known = c .before .before .before .before .before .before .before .before .before .before .before .before .before .before .before .before .before in
+    let a = known .before .args in
+    let bytes = now (a .policy) in
+    let rules = c .before .before .before .before .before .before .before .before .before .before .before .before .before .before .before .before .access-rules in
+    let u = c .before .before .before .before .before .before .before .before .before .unlocks in
+    let within = c .before .before .before .before .before .before .before .obtainable in
+    let found = c .before .preferred in
+    c .concluded .ensures
+    ∙ ends-found bytes (slice-bytes bytes (known .shared-slice-known .given)) (known .before .pre .0) (rules .result .heads) (rules .result .positive)
+    (rules .result .negated) (rules .result .starts) (rules .ensures) (a .request) (a .shown) (a .declined) _
+    (c .before .before .before .before .before .before .before .before .before .before .before .before .before .before .before .credentials .ensures) (u .result) (u .ensures)
+    (c .before .before .before .before .before .before .before .before .if1 .left) (within .result) (within .ensures) (foundOf (found .result)) (found .ensures)
 
 pub ending-spec : {M : Type 1} → statement M
 ending-spec =
@@ -64,7 +86,5 @@ ending-spec =
     returns
     obtainable-requires
     preferred-requires
-    enum-known-found
-    enum-told
-    returns-2
-    returns-3)
+    concluded-requires
+    returns-2)

@@ -1,3 +1,4 @@
+-- `session::ending::obtainable` meets its contract: by those of its calls. Assumes nothing.
 use borrow.Author.Needs.{needs}
 use Rattle.session.proofs.ending.obtainable.Statement.{statement}
 use Rattle.session.proofs.ending.obtainable.Tie as tie
@@ -6,21 +7,17 @@ use Rattle.session.proofs.ending.obtainable.Lts as lts
 use Rattle.model.proofs.disclosable_of.Reads as disclosable-of-reads
 use Rattle.session.proofs.ending.without.Reads as without-reads
 
--- src/ending.rt:58:9
 disclosable-of-requires : tie.Need-disclosable-of-requires
 disclosable-of-requires c κs = search needs
 
--- src/ending.rt:59:13
 without-requires : tie.Need-without-requires
 without-requires c κs = search needs
 
--- src/ending.rt:59:5
 without-requires-2 : tie.Need-without-requires-2
 without-requires-2 c κs = search needs
 
--- src/ending.rt:54:1
 returns : tie.Need-returns
-returns c = ?
+returns c = simp (c .without2 .ensures, c .before .without .ensures, c .before .before .disclosable-of .ensures)
 
 pub obtainable-spec : {M : Type 1} → statement M
 obtainable-spec =

@@ -1,32 +1,27 @@
+-- `session::ending::phase_after` meets its contract: one case for each ending. Assumes nothing.
 use borrow.Author.Needs.{needs}
 use Rattle.session.proofs.ending.phase_after.Statement.{statement}
 use Rattle.session.proofs.ending.phase_after.Tie as tie
 use Rattle.session.proofs.ending.phase_after.Reads as reads
 use Rattle.session.proofs.ending.phase_after.Lts as lts
 
--- src/ending.rt:74:40
 enum-told : tie.Need-enum-told
 enum-told c = search needs
 
--- src/ending.rt:75:39
 enum-told-2 : tie.Need-enum-told-2
 enum-told-2 c = search needs
 
--- src/ending.rt:76:21
 enum-known-ending : tie.Need-enum-known-ending
 enum-known-ending c = search needs
 
--- src/ending.rt:70:1
 returns : tie.Need-returns
-returns c = ?
+returns c = simp (c .enum-told .given .1)
 
--- src/ending.rt:70:1
 returns-2 : tie.Need-returns-2
-returns-2 c = ?
+returns-2 c = simp (c .enum-told2 .given .1)
 
--- src/ending.rt:70:1
 returns-3 : tie.Need-returns-3
-returns-3 c = ?
+returns-3 c = simp (c .before .ending .given .1)
 
 pub phase-after-spec : {M : Type 1} → statement M
 phase-after-spec =

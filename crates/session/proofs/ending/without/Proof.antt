@@ -1,14 +1,14 @@
+-- `session::ending::without` meets its contract: what two sets share is no larger than one of them. Assumes nothing.
+use lib.Bits.{and-le-l}
 use borrow.Author.Needs.{needs}
 use Rattle.session.proofs.ending.without.Statement.{statement}
 use Rattle.session.proofs.ending.without.Tie as tie
 use Rattle.session.proofs.ending.without.Reads as reads
 use Rattle.session.proofs.ending.without.Lts as lts
 
--- src/ending.rt:66:5
 sub-result : tie.Need-sub-result
-sub-result c = ?
+sub-result c = and-le-l (c .args .set) (c .args .other)
 
--- src/ending.rt:63:1
 returns : tie.Need-returns
 returns c = search needs
 

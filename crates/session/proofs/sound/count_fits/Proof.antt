@@ -1,3 +1,7 @@
+-- `session::sound::count_fits` meets its contract: by the count of ones and the two comparisons. Assumes nothing.
+use borrow.Author.Tests.{le-leb, lt-leb}
+use native.Mathlib.Omega.{arith}
+use Rattle.atoms.proofs.SizeLaws.{size-most}
 use borrow.Author.Needs.{needs}
 use Rattle.session.proofs.sound.count_fits.Statement.{statement}
 use Rattle.session.proofs.sound.count_fits.Tie as tie
@@ -6,29 +10,23 @@ use Rattle.session.proofs.sound.count_fits.Lts as lts
 use Rattle.atoms.proofs.AtomSet.count.Reads as count-reads
 use Rattle.atoms.proofs.AtomSet.credentials.Reads as credentials-reads
 
--- src/sound.rt:47:9
 credentials-requires : tie.Need-credentials-requires
 credentials-requires c κs = search needs
 
--- src/sound.rt:48:20
 count-requires : tie.Need-count-requires
 count-requires c κs = search needs
 
--- src/sound.rt:48:16
 add-most : tie.Need-add-most
-add-most c = ?
+add-most c = record { fits = omega (arith, c .count .ensures, size-most (c .before .credentials .result .bits)) }
 
--- src/sound.rt:49:27
 cast-result : tie.Need-cast-result
 cast-result c = search needs
 
--- src/sound.rt:44:1
 returns : tie.Need-returns
-returns c = ?
+returns c = simp (le-leb 1 _ (c .before .if1 .taken), c .before .before .before .count .ensures, c .before .before .before .before .credentials .ensures)
 
--- src/sound.rt:44:1
 returns-2 : tie.Need-returns-2
-returns-2 c = ?
+returns-2 c = simp (lt-leb 1 _ (c .if1 .left))
 
 pub count-fits-spec : {M : Type 1} → statement M
 count-fits-spec =

@@ -1,3 +1,4 @@
+-- `session::sound::is_sound` meets its contract: by the two tests. Assumes nothing.
 use borrow.Author.Needs.{needs}
 use Rattle.session.proofs.sound.is_sound.Statement.{statement}
 use Rattle.session.proofs.sound.is_sound.Tie as tie
@@ -6,21 +7,17 @@ use Rattle.session.proofs.sound.is_sound.Lts as lts
 use Rattle.session.proofs.sound.is_service.Reads as is-service-reads
 use Rattle.session.proofs.sound.phase_fits.Reads as phase-fits-reads
 
--- src/sound.rt:21:5
 is-service-requires : tie.Need-is-service-requires
 is-service-requires c κs = search needs
 
--- src/sound.rt:21:36
 phase-fits-requires : tie.Need-phase-fits-requires
 phase-fits-requires c κs = search needs
 
--- src/sound.rt:18:1
 returns : tie.Need-returns
-returns c = ?
+returns c = simp (← c .before .before .is-service .ensures, c .before .if1 .taken, c .phase-fits .ensures)
 
--- src/sound.rt:18:1
 returns-2 : tie.Need-returns-2
-returns-2 c = ?
+returns-2 c = simp (← c .before .is-service .ensures, c .if1 .left)
 
 pub is-sound-spec : {M : Type 1} → statement M
 is-sound-spec = tie.close (tie.spec is-service-requires phase-fits-requires returns returns-2)
