@@ -1,5 +1,6 @@
--- The laws of preference.
+-- The laws of preference and of the search, and the theorems.
 pub mod PreferLaws
 pub mod SubsetLaws
 pub mod NextLaws
 pub mod SearchLaws
+pub mod TheoremsProof

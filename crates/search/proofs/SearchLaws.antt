@@ -112,7 +112,7 @@ module _ (test : Question → Bool) where
 -- ---- fewest first
 
 -- x does not come before q: it has not fewer members, nor as many and a smaller number
-not-before : (x q : Question) → (size (x .asks) < size (q .asks) → ⊥) → (size (x .asks) ≡ size (q .asks) → x .asks < q .asks → ⊥)
+pub not-before : (x q : Question) → (size (x .asks) < size (q .asks) → ⊥) → (size (x .asks) ≡ size (q .asks) → x .asks < q .asks → ⊥)
     → lexBefore (keys x) (keys q) ≡ false
 not-before x q f g = go (lexBefore (keys x) (keys q)) refl
   where

@@ -1,2 +1,3 @@
 -- The laws of sessions and rounds.
 pub mod ProgramLaws
+pub mod TypeLaws

@@ -1,3 +1,4 @@
+-- `search::first_of_size` meets its contract: no candidate before the current one passes. Assumes nothing.
 use mathlib.Core.Path.{_∙_, sym}
 use Prim.Native.Nat.{_-_}
 use borrow.Author.Needs.{needs}

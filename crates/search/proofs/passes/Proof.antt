@@ -1,3 +1,4 @@
+-- `search::passes` meets its contract: by the count of ones and the test. Assumes nothing.
 use mathlib.Core.Path.{_∙_, _≡_, ap}
 use borrow.Author.Needs.{needs}
 use denote.Ref.{now}

@@ -1,3 +1,4 @@
+-- `search::preferred` meets its contract: no smaller candidate passes. Assumes nothing.
 use mathlib.Core.Path.{_∙_, _≡_, ap}
 use Prim.Native.Nat.{_-_, suc}
 use borrow.Author.Needs.{needs}

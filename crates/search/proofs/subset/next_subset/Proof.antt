@@ -1,3 +1,4 @@
+-- `search::subset::next_subset` meets its contract: the one added is carried to the next place of the set. Assumes nothing.
 use Rattle.search.proofs.NextLaws.{next-subset}
 use Rattle.search.proofs.subset.next_subset.Statement.{statement}
 use Rattle.search.proofs.subset.next_subset.Tie as tie
