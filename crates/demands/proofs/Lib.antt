@@ -7,5 +7,6 @@ pub mod AnswerProof
 pub mod RunLaws
 pub mod EndLaws
 pub mod Demand3Proof
+pub mod PromiseProof
 pub mod MarkedCases
 pub mod ClaimsProof

@@ -4,5 +4,6 @@ pub mod Lists
 pub mod Demand1
 pub mod Demand2
 pub mod Demand3
+pub mod Promises
 pub mod Marked
 pub mod Claims
