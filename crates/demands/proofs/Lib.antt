@@ -8,5 +8,6 @@ pub mod RunLaws
 pub mod EndLaws
 pub mod Demand3Proof
 pub mod PromiseProof
+pub mod CallsProof
 pub mod MarkedCases
 pub mod ClaimsProof

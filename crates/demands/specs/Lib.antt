@@ -5,5 +5,6 @@ pub mod Demand1
 pub mod Demand2
 pub mod Demand3
 pub mod Promises
+pub mod Calls
 pub mod Marked
 pub mod Claims
