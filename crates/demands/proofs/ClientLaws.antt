@@ -58,9 +58,12 @@ module _ (pol : Policy) (low : Every Low (pol .disclosure)) (r H I S : ℕ) (c :
   declined-unheld : (past : List Round) → Past Replies past → (k : ℕ) → Member k (declinedBy past) → Member k H → ⊥
   unfolding Past declinedBy
   declined-unheld [] h k m i = none-in-empty k m
-  declined-unheld (t ∷ past) h k m i = go (union-cases (declinedBy past) (difference (lastQuestion past .asks) (t .takes .shows)) k m) (λ n. declined-unheld past (h .0) k n i)
+  declined-unheld (t ∷ past) h k m i = go (union-cases (declinedBy past) now k m) (λ n. declined-unheld past (h .0) k n i)
     where
-      go : Member k (declinedBy past) ⊎ Member k (difference (lastQuestion past .asks) (t .takes .shows)) → (Member k (declinedBy past) → ⊥) → ⊥
+      now : ℕ
+      now = difference (lastQuestion past .asks) (t .takes .shows)
+
+      go : Member k (declinedBy past) ⊎ Member k now → (Member k (declinedBy past) → ⊥) → ⊥
       go (inl n) ih = ih n
       go (inr n) ih = declined-now past (t .takes .shows) k (h .1) n i
 
@@ -90,19 +93,27 @@ module _ (pol : Policy) (low : Every Low (pol .disclosure)) (r H I S : ℕ) (c :
   unfolding Past
   never-denied past t g h e = denied-none pol low r past t (g .1) e (left (shownBy (t ∷ past))) (left-over (t ∷ past) h (first-shown past t h))
 
-  declined-lacking : (past : List Round) → Past (Genuine pol low r) past → Past Replies past → size (declinedBy past) ≤ size (difference (askable (pol .disclosure)) H)
+  -- the askable ones that it lacks
+  abbrev lacked : ℕ
+  lacked = difference (askable (pol .disclosure)) H
+
+  declined-lacking : (past : List Round) → Past (Genuine pol low r) past → Past Replies past → size (declinedBy past) ≤ size lacked
   declined-lacking past g h =
-      size-le (declinedBy past) (difference (askable (pol .disclosure)) H) (λ k m. difference-iff (askable (pol .disclosure)) H k .1 (declined-askable pol low r past g k m, declined-unheld past h k m))
+      size-le (declinedBy past) lacked
+      (λ k m. difference-iff (askable (pol .disclosure)) H k .1 (declined-askable pol low r past g k m, declined-unheld past h k m))
 
   -- each round but the latest has led to one more that is declined, while the service is locked
-  locked-most : (past : List Round) (t : Round) → Past (Genuine pol low r) (t ∷ past) → Past Replies (t ∷ past) → unlocks (pol .access) r (shownBy (t ∷ past)) ≡ false
-      → length past ≤ size (declinedBy (t ∷ past))
+  locked-most : (past : List Round) (t : Round) → Past (Genuine pol low r) (t ∷ past) → Past Replies (t ∷ past)
+      → unlocks (pol .access) r (shownBy (t ∷ past)) ≡ false → length past ≤ size (declinedBy (t ∷ past))
   unfolding Past reply shownBy declinedBy lastQuestion
   locked-most [] t g h e = omega arith
   locked-most (u ∷ past) t g h e = go (ℕ-discrete (difference Q H) empty) (locked-most past u (g .0) (h .0) (q .0))
     where
       Q : ℕ
       Q = questionOf (u .ended) .asks
+
+      p : ℕ
+      p = t .takes .shows
 
       P : ℕ
       P = shownBy (u ∷ past)
@@ -114,14 +125,16 @@ module _ (pol : Policy) (low : Every Low (pol .disclosure)) (r H I S : ℕ) (c :
       q = asked-before pol low r past u t (g .0 .1) (g .1)
 
       go : Dec (difference Q H ≡ empty) → length past ≤ size N → suc (length past) ≤ size (declinedBy (t ∷ u ∷ past))
-      go (yes z) ih = absurd (true≢false (sym (q .1 .way .opens) ∙ ap (λ (x : ℕ). unlocks (pol .access) r (union P x)) (sym (h .1 ∙ intersection-all Q H z)) ∙ e))
+      go (yes z) ih =
+          let shows : t .takes .shows ≡ Q = h .1 ∙ intersection-all Q H z in
+          absurd (true≢false (sym (q .1 .way .opens) ∙ ap (λ (x : ℕ). unlocks (pol .access) r (union P x)) (sym shows) ∙ e))
       go (no n) ih =
           let (k, m) = inhabited (difference Q H) n in
           let (i, unheld) = difference-iff Q H k .0 m in
           let a = q .1 .all k i in
-          let lacks : Member k (t .takes .shows) → ⊥ = λ s. unheld (intersection-iff Q H k .0 (subst (λ (x : ℕ). Member k x) (h .1) s) .1) in
-          let grows = size-lt N (union N (difference Q (t .takes .shows))) k (omega (arith, a .below-16)) (union-left N (difference Q (t .takes .shows)))
-          (union-right N (difference Q (t .takes .shows)) k (difference-iff Q (t .takes .shows) k .1 (i, lacks))) (not-in N k (a .not-declined)) in
+          let lacks : Member k p → ⊥ = λ s. unheld (intersection-iff Q H k .0 (subst (λ (x : ℕ). Member k x) (h .1) s) .1) in
+          let grows = size-lt N (union N (difference Q p)) k (omega (arith, a .below-16)) (union-left N (difference Q p))
+          (union-right N (difference Q p) k (difference-iff Q p k .1 (i, lacks))) (not-in N k (a .not-declined)) in
           omega arith
 
   -- so round 2 + u, if there is one, ends in grant, and is the last

@@ -62,9 +62,12 @@ module _ (bytes : List ℕ) (b : Bytes bytes) (w : WellFormed bytes) (r : ℕ) (
 
   -- ---- the bound d + 1
 
-  bounded : ByRound (suc (size (askable (pol .disclosure)))) Final rounds
+  abbrev most-asked : ℕ
+  most-asked = suc (size (askable (pol .disclosure)))
+
+  bounded : ByRound most-asked Final rounds
   bounded = record {
-    most = omega (arith, each-length (suc (size (askable (pol .disclosure)))) [] rounds (omega arith) (each-imp Real _ (bounded-length pol low r) [] rounds real));
+    most = omega (arith, each-length most-asked [] rounds (omega arith) (each-imp Real _ (bounded-length pol low r) [] rounds real));
     last = each-imp Real _ (bounded-last pol low r) [] rounds real;
   }
 
@@ -74,18 +77,23 @@ module _ (bytes : List ℕ) (b : Bytes bytes) (w : WellFormed bytes) (r : ℕ) (
     abbrev Held : List Round → Round → Type 0
     Held past t = Real past t × Past (Replies pol low r H I S c) (t ∷ past)
 
+    abbrev most-lacked : ℕ
+    most-lacked = 2 + size (difference (askable (pol .disclosure)) H)
+
     client : Each Held [] rounds
     unfolding Past
-    client = each-both Real (λ past t. Past (Replies pol low r H I S c) (t ∷ past)) [] rounds real (each-past (Replies pol low r H I S c) [] rounds tt e)
+    client =
+        let replies = each-past (Replies pol low r H I S c) [] rounds tt e in
+        each-both Real (λ past t. Past (Replies pol low r H I S c) (t ∷ past)) [] rounds real replies
 
     never : Each (λ past t. t .ended ≢ deny) [] rounds
     never = each-imp Held _ (λ past t g. never-denied pol low r H I S c past t (g .0) (g .1)) [] rounds client
 
-    granted-by : ByRound (2 + size (difference (askable (pol .disclosure)) H)) (λ e. e ≡ grant) rounds
+    granted-by : ByRound most-lacked (λ e. e ≡ grant) rounds
     granted-by = record {
       most = omega (
         arith,
-        each-length (2 + size (difference (askable (pol .disclosure)) H)) [] rounds (omega arith)
+        each-length most-lacked [] rounds (omega arith)
             (each-imp Held _ (λ past t g. admitted-length pol low r H I S c past t (g .0) (g .1)) [] rounds client),
       );
       last = each-imp Held _ (λ past t g. admitted-last pol low r H I S c past t (g .0) (g .1)) [] rounds client;
@@ -96,7 +104,7 @@ module _ (bytes : List ℕ) (b : Bytes bytes) (w : WellFormed bytes) (r : ℕ) (
       never-denied = never;
       granted-by = granted-by;
       granted = λ l. over-granted [] rounds never
-          (ends-within pol r ts responding (2 + size (difference (askable (pol .disclosure)) H)) (λ e. e ≡ grant) (λ e p. inl p) (omega arith) granted-by l);
+          (ends-within pol r ts responding most-lacked (λ e. e ≡ grant) (λ e p. inl p) (omega arith) granted-by l);
     }
 
   -- ---- the demand
@@ -111,7 +119,7 @@ module _ (bytes : List ℕ) (b : Bytes bytes) (w : WellFormed bytes) (r : ℕ) (
         (demand2 bytes b w r (shownBy (t ∷ past)) (declinedBy (t ∷ past)))) [] rounds (all .genuine);
     once = each-imp (Genuine pol low r) _ (once pol low r) [] rounds (all .genuine);
     bounded = bounded;
-    ended = λ l. ends-within pol r ts responding (suc (size (askable (pol .disclosure)))) Final (λ e p. p) (omega arith) bounded l;
+    ended = λ l. ends-within pol r ts responding most-asked Final (λ e p. p) (omega arith) bounded l;
     denies = each-imp (Genuine pol low r) _ (λ past t g. subst (DeniedWhen pol r (shownBy (t ∷ past)) (declinedBy (t ∷ past))) (sym (g .given))
         (denied-when bytes b w r (shownBy (t ∷ past)) (declinedBy (t ∷ past)))) [] rounds (all .genuine);
     admits = λ H I S c e. admitted H I S (licensed-test bytes b w r H I S c) e;

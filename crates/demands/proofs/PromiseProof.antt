@@ -129,7 +129,8 @@ module _ (bytes : List ℕ) (b : Bytes bytes) (s : Session) (m : Move) where
   answer-number : (n : ℕ) → round bytes s m .answer ≡ refuse (number n) → WellFormed bytes × FirstBroken (SessionForm s) (number n)
   answer-number n p = go (answer-refused (number n) p)
     where
-      go : ByPolicy bytes (number n) ⊎ (WellFormed bytes × FirstBroken (SessionForm s) (number n)) → WellFormed bytes × FirstBroken (SessionForm s) (number n)
+      go : ByPolicy bytes (number n) ⊎ (WellFormed bytes × FirstBroken (SessionForm s) (number n))
+          → WellFormed bytes × FirstBroken (SessionForm s) (number n)
       go (inl (g, (x, e))) = absurd (number≢policy n g e)
       go (inr h) = h
 

@@ -4,7 +4,7 @@ use mathlib.Core.Path.{_≡_, refl, subst, sym}
 use mathlib.Core.Logic.{_⊎_, inl, inr}
 use mathlib.Core.Bool.{false}
 use mathlib.Core.List.{List, [], _∷_}
-use Prim.Native.Nat.{_<_, _≤_, suc, ℕ}
+use Prim.Native.Nat.{_≤_, suc, ℕ}
 use lib.ListN.{length}
 use native.Mathlib.Omega.{arith}
 use Rattle.atoms.specs.Sets.{Member, Subset, bit, difference, empty, intersection, size, union}
@@ -190,7 +190,8 @@ module _ (pol : Policy) (low : Every Low (pol .disclosure)) (r : ℕ) where
   unfolding Past declinedBy lastQuestion
   declined-askable [] g = λ k m. absurd (none-in-empty k m)
   declined-askable (t ∷ past) g =
-      union-least (declinedBy past) (difference (lastQuestion past .asks) (t .takes .shows)) A (declined-askable past (g .0)) (last past t (g .0) (g .1))
+      union-least (declinedBy past) (difference (lastQuestion past .asks) (t .takes .shows)) A (declined-askable past (g .0))
+      (last past t (g .0) (g .1))
     where
       last : (past : List Round) (t : Round) → Past Genuine past → Genuine past t → Subset (difference (lastQuestion past .asks) (t .takes .shows)) A
       last [] t g h k m = absurd (none-in-empty k (difference-iff empty (t .takes .shows) k .0 m .0))

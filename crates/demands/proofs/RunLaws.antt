@@ -44,7 +44,10 @@ module _ (pol : Policy) (low : Every Low (pol .disclosure)) (r : ℕ) where
   sound-after : Service r → (past : List Round) → Real past → SoundSession (sessionFrom r past)
   unfolding sessionFrom phaseFrom Past shownBy declinedBy
   sound-after v [] g = record { service = v; phase = (refl, refl, refl) }
-  sound-after v (t ∷ past) g = record { service = v; phase = ending-sound pol low (sessionFrom r (t ∷ past)) (t .ended) in-range (says pol low r past t (g .1)) }
+  sound-after v (t ∷ past) g = record {
+    service = v;
+    phase = ending-sound pol low (sessionFrom r (t ∷ past)) (t .ended) in-range (says pol low r past t (g .1));
+  }
     where
       P : ℕ
       P = shownBy (t ∷ past)
@@ -108,7 +111,8 @@ module _ (bytes : List ℕ) (b : Bytes bytes) (w : WellFormed bytes) (r : ℕ) (
 
   -- either the session stays, and the round is not accepted, or it is accepted
   data Case (past : List Round) (m : Move) (o : Outcome) : Type 0 where
-    stays : (a : Answer) → ((rs : List Round) → addRound m a rs ≡ rs) → Responds pol r past m a → o ≡ record { answer = a; session = sessionFrom r past } → Case past m o
+    stays : (a : Answer) → ((rs : List Round) → addRound m a rs ≡ rs) → Responds pol r past m a
+        → o ≡ record { answer = a; session = sessionFrom r past } → Case past m o
     goes : Genuine pol low r past (roundNext pol low r past m) → Responds pol r past m (ends (endingNext pol low r past m))
         → o ≡ record { answer = ends (endingNext pol low r past m); session = sessionFrom r (roundNext pol low r past m ∷ past) } → Case past m o
 
@@ -141,7 +145,8 @@ module _ (bytes : List ℕ) (b : Bytes bytes) (w : WellFormed bytes) (r : ℕ) (
     pub given : Each Given before ts
     pub genuine : Each (Genuine pol low r) past (acceptedOf ts)
 
-  pub whole : (before : List Turn) (past : List Round) → acceptedOf before ≡ past → Ok past → (ms : List Move) → Whole before past (run (round bytes) (sessionFrom r past) ms)
+  pub whole : (before : List Turn) (past : List Round) → acceptedOf before ≡ past → Ok past → (ms : List Move)
+      → Whole before past (run (round bytes) (sessionFrom r past) ms)
   unfolding run Each Past acceptedOf roundNext
   whole before past s g [] = record { given = tt; genuine = tt }
   whole before past s g (m ∷ ms) = go (round bytes (sessionFrom r past) m) (round-case past g m)
@@ -156,7 +161,8 @@ module _ (bytes : List ℕ) (b : Bytes bytes) (w : WellFormed bytes) (r : ℕ) (
 
       go : (o : Outcome) → Case past m o
           → ((t : Turn) → acceptedOf (t ∷ before) ≡ past → Whole (t ∷ before) past (run (round bytes) (sessionFrom r past) ms))
-          → ((t : Turn) → acceptedOf (t ∷ before) ≡ u ∷ past → Genuine pol low r past u → Whole (t ∷ before) (u ∷ past) (run (round bytes) (sessionFrom r (u ∷ past)) ms))
+          → ((t : Turn) → acceptedOf (t ∷ before) ≡ u ∷ past → Genuine pol low r past u
+              → Whole (t ∷ before) (u ∷ past) (run (round bytes) (sessionFrom r (u ∷ past)) ms))
           → Next o
       go o (stays a k h e) f f′ =
           let t : Turn = record { takes = m; gives = record { answer = a; session = sessionFrom r past } } in

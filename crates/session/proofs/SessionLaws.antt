@@ -32,7 +32,11 @@ decides-count s =
 
 decides-question : (s : Session) (q : Question) → Decides (questionTest s q) (QuestionKept s q)
 decides-question s q = (
-  λ e. let h = both .0 e in record { not-empty = h .0; unshown = λ k m i. h .1 k m (union-left P N k i); undeclined = λ k m i. h .1 k m (union-right P N k i) },
+  λ e. let h = both .0 e in record {
+    not-empty = h .0;
+    unshown = λ k m i. h .1 k m (union-left P N k i);
+    undeclined = λ k m i. h .1 k m (union-right P N k i);
+  },
   λ h. both .1 (h .not-empty, λ k m i. apart h k m (union-cases P N k i)),
 )
   where

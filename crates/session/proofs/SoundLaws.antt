@@ -44,7 +44,8 @@ module _ (P N Q p : ℕ) where
     where
       go : Member k p ⊎ (bit p k ≡ 0) → Member k (union (union P p) (union N (difference Q p)))
       go (inl i) = union-left (union P p) (union N (difference Q p)) k (union-right P p k i)
-      go (inr z) = union-right (union P p) (union N (difference Q p)) k (union-right N (difference Q p) k (difference-iff Q p k .1 (m, λ i. omega arith)))
+      go (inr z) =
+          union-right (union P p) (union N (difference Q p)) k (union-right N (difference Q p) k (difference-iff Q p k .1 (m, λ i. omega arith)))
 
   -- a question brings at least one more
   after-more : Q < 2 ^ 16 → Q ≢ 0 → ((k : ℕ) → Member k Q → Member k P → ⊥) → ((k : ℕ) → Member k Q → Member k N → ⊥) → size (union P N) < size after
@@ -124,7 +125,8 @@ opened-sound r v = record {
   sets = record { shown = omega arith; declined = omega arith; asks = omega arith };
 }
 
-pub round-sound : (bytes : List ℕ) → Bytes bytes → (s : Session) (m : Move) → m .shows < 2 ^ 16 → SoundSixteenBit s → SoundSixteenBit (round bytes s m .session)
+pub round-sound : (bytes : List ℕ) → Bytes bytes → (s : Session) (m : Move) → m .shows < 2 ^ 16 → SoundSixteenBit s
+    → SoundSixteenBit (round bytes s m .session)
 unfolding round
 round-sound bytes b s m l h = go (roundRefusal bytes s) refl
   where
@@ -144,7 +146,9 @@ pub seventeen : (s : Session) → SoundSixteenBit s → s .count ≤ 17
 seventeen s h = go (s .phase) (h .sound .phase)
   where
     in-range : CountKept s → s .count ≤ 17
-    in-range c = omega (arith, c .1, size-credentials (union (s .shown) (s .declined)) (or-lt 16 (s .shown) (s .declined) (h .sets .shown) (h .sets .declined)))
+    in-range c =
+        let l = or-lt 16 (s .shown) (s .declined) (h .sets .shown) (h .sets .declined) in
+        omega (arith, c .1, size-credentials (union (s .shown) (s .declined)) l)
 
     go : (ph : Phase) → PhaseKept s ph → s .count ≤ 17
     go fresh k = omega (arith, k .2)
