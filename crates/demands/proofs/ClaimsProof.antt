@@ -1,5 +1,5 @@
 -- Every theorem of specs/Claims. Assumes nothing.
-use mathlib.Core.Path.{refl}
+use mathlib.Core.Path.{refl, subst}
 use Rattle.atoms.specs.LittleEndian.{littleEndian}
 use Rattle.atoms.proofs.MeaningProof.{meaning}
 use Rattle.rules.proofs.TheoremsProof as rules
@@ -7,8 +7,22 @@ use Rattle.records.proofs.TheoremsProof as records
 use Rattle.policy.proofs.TheoremsProof as policy
 use Rattle.evaluation.proofs.TheoremsProof as evaluation
 use Rattle.model.proofs.TheoremsProof as model
+use Rattle.session.specs.Sessions.{Session}
 use Rattle.demands.specs.Claims.{Claims}
+use Rattle.demands.specs.Demand3.{Demand3, Demand3Holds}
+use Rattle.demands.specs.Lists.{Linked}
+use Rattle.demands.specs.Promises.{AlwaysSound}
+use Rattle.demands.proofs.CallsProof.{program-meets}
+use Rattle.demands.proofs.Demand3Proof.{demand3}
+use Rattle.demands.proofs.ListLaws.{lists-mean}
 use Rattle.demands.proofs.MarkedCases.{marked}
+use Rattle.demands.proofs.PromiseProof.{always-sound, demand1, opened-by, opening-promise, round-promise}
+
+-- the session is the one that opening gave
+demand3-holds : Demand3Holds
+demand3-holds bytes b w r s e ms l ts k =
+    let (service, is) = opened-by r s e in
+    subst (λ (x : Session). Linked bytes x ms ts → Demand3 bytes r x ms ts) is (demand3 bytes b w r service ms ts) k
 
 pub claims : Claims
 unfolding littleEndian
@@ -28,5 +42,14 @@ claims = record {
   policies = policy.theorems;
   arrays = evaluation.theorems;
   answers = model.theorems;
+  opens = λ r l. opening-promise r;
+  demand1 = λ bytes b s h m l. demand1 bytes b s m;
+  demand2 = λ bytes b s h m l. round-promise bytes b s m;
+  demand3 = demand3-holds;
+  program = program-meets demand3-holds;
+  lists = lists-mean;
+  always-sound = λ r s e vs f.
+      let (service, is) = opened-by r s e in
+      subst (λ (x : Session). AlwaysSound x vs) is (always-sound r service vs f);
   marked = marked;
 }

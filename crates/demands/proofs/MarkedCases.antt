@@ -1,26 +1,105 @@
 -- The marked cases, computed from the definitions. Assumes nothing.
-use mathlib.Core.Path.{refl}
+use mathlib.Core.Path.{_≡_, refl, subst, sym}
+use mathlib.Core.Bool.{Bool, _&&_, true}
+use mathlib.Core.List.{List, [], _∷_}
 use mathlib.Core.Option.{orElse}
-use Rattle.atoms.specs.LittleEndian.{littleEndian}
+use Prim.Native.Nat.{ℕ}
+use lib.Count.{onesIn}
+use lib.Dec.{ltb}
+use native.Mathlib.Omega.{arith}
+use Rattle.atoms.specs.LittleEndian.{Bytes, littleEndian}
+use Rattle.atoms.specs.Sets.{Member, Subset, empty, size, union}
+use Rattle.atoms.proofs.SetLaws.{empty-subset, subset-antisym, subset-true, union-least, union-left}
+use Rattle.atoms.proofs.TestLaws.{and-true}
 use Rattle.rules.specs.Model.{closureBy, consequences, model, passBy, times}
 use Rattle.rules.specs.Stable.{reduct}
-use Rattle.records.specs.Records.{ofKind, readRecord, recordsFrom, recordsOf, rulesOf}
+use Rattle.records.specs.Records.{disclosureKind, ofKind, readRecord, recordsFrom, recordsOf, rulesOf}
 use Rattle.records.specs.Writing.{_if_not_, bytesOf, disclose_if_, setOf, writeRecord}
 use Rattle.policy.specs.PolicyTest.{accessLevels, firstFailed, forAtoms, policyRefusal, recordRefusal, recordsRefusal}
+use Rattle.policy.specs.WrittenForm.{WellFormed}
+use Rattle.policy.proofs.DecideLaws.{decides-lt}
+use Rattle.policy.proofs.PolicyLaws.{disclosure-heads}
+use Rattle.policy.proofs.TheoremsProof as policy
+use Rattle.evaluation.specs.Unlocking.{Unlocks, unlocks}
+use Rattle.evaluation.proofs.AccessLaws.{unlocks-iff}
 use Rattle.model.specs.Answers.{disclosableAnswer, modelAnswer}
-use Rattle.model.specs.Disclosure.{disclosable}
-use Rattle.evaluation.specs.Unlocking.{unlocks}
-use Rattle.demands.specs.Marked.{Marked, policyA}
+use Rattle.model.specs.Disclosure.{askable, disclosable}
+use Rattle.model.proofs.DisclosureLaws.{disclosable-iff}
+use Rattle.search.specs.Preference.{lexBefore, preferred, subsets}
+use Rattle.search.specs.Question.{candidates, chosen}
+use Rattle.session.specs.Endings.{ending, policyOf}
+use Rattle.session.specs.Rounds.{opening, round, roundRefusal, run, sessionRefusal, worked}
+use Rattle.demands.specs.Demand3.{Licensed}
+use Rattle.demands.specs.Lists.{Each, acceptedOf, reply}
+use Rattle.demands.specs.Marked.{Marked, Witness, answers, lines, moves, policyA, policyB, turns, unlocksBy}
+
+-- ---- the witness
+
+byteTest : List ℕ → Bool
+byteTest [] = true
+byteTest (b ∷ bs) = ltb b 256 && byteTest bs
+
+test-bytes : (bs : List ℕ) → byteTest bs ≡ true → Bytes bs
+unfolding byteTest
+test-bytes [] e = tt
+test-bytes (b ∷ bs) e = let h = and-true (ltb b 256) (byteTest bs) e in (decides-lt b 256 .0 (h .0), test-bytes bs (h .1))
+
+bytes-A : Bytes policyA
+unfolding policyA _if_not_ disclose_if_ writeRecord bytesOf setOf byteTest
+bytes-A = test-bytes policyA refl
+
+form-A : WellFormed policyA
+unfolding _if_not_ disclose_if_ writeRecord bytesOf setOf littleEndian readRecord forAtoms accessLevels firstFailed recordRefusal recordsRefusal
+    policyRefusal orElse policyA
+form-A = policy.theorems .tested policyA bytes-A .accepts .0 refl
+
+-- beside each part of {0, 1} it is {0, 1} itself
+same-part : (T : ℕ) → Subset T 3 → union 3 T ≡ 3
+same-part T f = subset-antisym (union-least 3 T 3 (λ k m. m) f) (union-left 3 T)
+
+opens-A : unlocksBy policyA 16 3 ≡ true
+unfolding _if_not_ disclose_if_ writeRecord bytesOf setOf littleEndian readRecord recordsFrom recordsOf ofKind rulesOf reduct times passBy closureBy
+    consequences model unlocks policyA
+opens-A = refl
+
+reach-A : disclosable (rulesOf disclosureKind policyA) empty ≡ 7
+unfolding _if_not_ disclose_if_ writeRecord bytesOf setOf littleEndian readRecord recordsFrom recordsOf ofKind rulesOf times passBy closureBy
+    disclosable policyA
+reach-A = refl
+
+licensed-A : Licensed (policyOf policyA) 16 3 empty 3
+licensed-A = record {
+  holding = omega arith;
+  first = empty-subset 3;
+  held = λ k m. m;
+  disclosed = λ k m. disclosable-iff (rulesOf disclosureKind policyA) (disclosure-heads policyA bytes-A form-A) empty k .0
+      (subst (λ (x : ℕ). Member k x) (sym reach-A) (subset-true 3 7 refl k m));
+  opens = λ T f. subst (Unlocks (policyOf policyA .access) 16) (sym (same-part T f)) (unlocks-iff policyA bytes-A form-A 16 3 .0 opens-A);
+}
+
+witness : Witness
+unfolding _if_not_ disclose_if_ writeRecord bytesOf setOf littleEndian readRecord forAtoms accessLevels firstFailed recordRefusal recordsRefusal
+    policyRefusal orElse recordsFrom recordsOf ofKind rulesOf reduct times passBy closureBy consequences model disclosable askable unlocks onesIn size
+    subsets lexBefore preferred candidates chosen ending worked sessionRefusal roundRefusal round run acceptedOf Each reply moves turns policyA
+witness = record { licensed = licensed-A; client = (refl, (refl, (refl, tt))); bound = refl }
+
+-- ---- all of them
 
 pub marked : Marked
 unfolding _if_not_ disclose_if_ writeRecord bytesOf setOf littleEndian readRecord forAtoms accessLevels firstFailed recordRefusal recordsRefusal
     policyRefusal orElse recordsFrom recordsOf ofKind rulesOf reduct times passBy closureBy consequences model disclosable unlocks modelAnswer
-    disclosableAnswer policyA
+    disclosableAnswer onesIn size subsets lexBefore preferred candidates chosen ending worked sessionRefusal roundRefusal round run opening acceptedOf
+    Each reply moves turns answers lines policyA policyB
 marked = record {
   example = refl;
   disclosure-example = refl;
+  opens = refl;
+  a = refl;
+  b = refl;
+  c = refl;
   d = refl;
   d-no-grant = refl;
+  d-denied = refl;
   e = refl;
   e-no-grant = refl;
   unlocked = (refl, refl);
@@ -29,4 +108,11 @@ marked = record {
   g = refl;
   h = refl;
   i = refl;
+  j = refl;
+  j-holder = (refl, (refl, tt));
+  j-shows = refl;
+  j-disclosed = refl;
+  j-alone = refl;
+  j-beside = refl;
+  witness = witness;
 }

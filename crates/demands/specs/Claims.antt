@@ -1,15 +1,28 @@
 -- The theorems that a customer reads, on one page; proofs/ClaimsProof has them all. What they leave to belief is that the words in which they are
 -- stated say what the paper says: Member and Subset; readRecord, recordAt, rulesOf and level; Levelled, BodyHolds, ClosedBeside, Least and
--- OneStable; Closed and Disclosable; WellFormed and PolicyRefused with their parts; Gives; and the maps from the program's types (specs/Types of
--- records, policy and model). Assumes nothing.
+-- OneStable; Closed and Disclosable; WellFormed and PolicyRefused with their parts; Gives; Unlocks, Missing and Preferred; SoundSession and Finished
+-- with their parts; acceptedOf, Each, SomeRound, SomeNext, ByRound, Linked and Calls; Licensed and Client; and the maps from the program's types
+-- (specs/Types of records, policy, model and session). Assumes nothing.
+use mathlib.Core.Path.{_≡_}
+use mathlib.Core.List.{List}
+use Prim.Native.Nat.{_<_, _^_, ℕ}
+use Rattle.atoms.specs.LittleEndian.{Bytes}
 use Rattle.atoms.specs.Meaning.{Meaning}
+use Rattle.rules.specs.Rules.{Every}
 use Rattle.rules.specs.Theorems as rules
 use Rattle.records.specs.Theorems as records
 use Rattle.policy.specs.Theorems as policy
 use Rattle.evaluation.specs.Theorems as evaluation
 use Rattle.model.specs.Theorems as model
+use Rattle.session.specs.Rounds.{Move, gives, opening, round}
+use Rattle.session.specs.Sessions.{Session, SixteenBit}
+use Rattle.demands.specs.Calls.{ProgramMeetsDemand3}
 use Rattle.demands.specs.Constants.{Constants}
+use Rattle.demands.specs.Demand1.{Demand1}
+use Rattle.demands.specs.Demand3.{Demand3Holds}
+use Rattle.demands.specs.Lists.{ListsMean}
 use Rattle.demands.specs.Marked.{Marked}
+use Rattle.demands.specs.Promises.{AlwaysSound, Fits, Opening, RoundPromise, Visit}
 
 pub record Claims : Type 1 where
   -- the paper's numbers
@@ -24,6 +37,18 @@ pub record Claims : Type 1 where
   pub policies : policy.Theorems
   -- rules in arrays have the policy's model, and what it is to unlock
   pub arrays : evaluation.Theorems
-  -- the model and the disclosable set of a policy, or its refusal
+  -- the model and the disclosable set of a policy, or its refusal; the askable credentials, which d and u count
   pub answers : model.Theorems
+  -- what opening gives for each request, a 16-bit number
+  pub opens : (r : ℕ) → r < 2 ^ 16 → Opening r (opening r)
+  -- demand 1, and demand 2 with what an accepted round does to the session, of a round of any session of 16-bit sets
+  pub demand1 : (bytes : List ℕ) → Bytes bytes → (s : Session) → SixteenBit s → (m : Move) → m .shows < 2 ^ 16 → Demand1 bytes s (round bytes s m)
+  pub demand2 : (bytes : List ℕ) → Bytes bytes → (s : Session) → SixteenBit s → (m : Move) → m .shows < 2 ^ 16
+      → RoundPromise bytes s m (round bytes s m)
+  -- demand 3, of the definitions and of the program's calls; and what its lists say
+  pub demand3 : Demand3Holds
+  pub program : ProgramMeetsDemand3
+  pub lists : ListsMean
+  -- "Every session that opening and rounds give is sound, also when policies are changed between rounds. The longest sessions have 17 rounds."
+  pub always-sound : (r : ℕ) (s : Session) → opening r ≡ gives s → (vs : List Visit) → Every Fits vs → AlwaysSound s vs
   pub marked : Marked

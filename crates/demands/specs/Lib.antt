@@ -1,4 +1,10 @@
--- What the customer reads: the paper's numbers, the marked cases, and every theorem on one page.
+-- What the customer reads: the paper's numbers, lists of rounds, the demands, the marked cases, and every theorem on one page.
 pub mod Constants
+pub mod Lists
+pub mod Demand1
+pub mod Demand2
+pub mod Demand3
+pub mod Promises
+pub mod Calls
 pub mod Marked
 pub mod Claims

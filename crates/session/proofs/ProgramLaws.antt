@@ -4,15 +4,14 @@ use mathlib.Core.Bool.{Bool, _&&_, cond, false, not, true}
 use mathlib.Core.List.{List, [], _∷_}
 use mathlib.Core.Option.{Option, Option·map, none, orElse, some}
 use Prim.Native.Nat.{_+_, _≤_, suc, ℕ}
-use lib.Dec.{eqb, leb, leb→le}
+use lib.Dec.{eqb}
 use native.Mathlib.Numerals.{add-one}
 use native.Mathlib.Omega.{arith}
-use Rattle.atoms.specs.Atoms.{firstDerived, lastDerived}
 use Rattle.atoms.specs.LittleEndian.{Bytes}
-use Rattle.atoms.specs.Sets.{difference, size, union}
+use Rattle.atoms.specs.Sets.{difference, union}
 use Rattle.atoms.proofs.SetLaws.{union-empty}
 use Rattle.atoms.proofs.SizeLaws.{size-most}
-use Rattle.atoms.proofs.TestLaws.{and-true, both-true, eqb-true, true-T, true-eqb}
+use Rattle.atoms.proofs.TestLaws.{both-true, true-eqb}
 use Rattle.rules.specs.Model.{model}
 use Rattle.records.specs.Records.{accessKind, rulesOf}
 use Rattle.policy.specs.PolicyTest.{firstFailed, policyRefusal}
@@ -27,7 +26,8 @@ use Rattle.search.proofs.SearchLaws.{chosen-laid}
 use Rattle.session.specs.Endings.{Ending, Policy, conclude, ending, grant, obtainable, policyOf}
 use Rattle.session.specs.Refusals.{Refusal, number, ofPolicy}
 use Rattle.session.specs.Rounds.{Move, Outcome, decided, ends, openUnless, opening, phaseAfter, refuses, respond, round, roundRefusal, sessionRefusal, shownAfter, turnedBack, worked}
-use Rattle.session.specs.Sessions.{Phase, Service, Session, closed, countTest, fresh, isClosed, isService, isSound, opened, phaseTest, question, questionTest, waiting}
+use Rattle.session.specs.Sessions.{CountKept, Phase, PhaseKept, Service, Session, closed, fresh, isClosed, isService, isSound, opened, phaseTest, question, waiting}
+use Rattle.session.proofs.SessionLaws.{decides-sound}
 
 -- ---- the ending, from rules in arrays
 
@@ -57,9 +57,7 @@ module _ (bytes : List ℕ) (b : Bytes bytes) (w : W.WellFormed bytes) (h p m s 
 -- ---- a sound session
 
 pub sound-service : (s : Session) → isSound s ≡ true → Service (s .request)
-sound-service s e =
-    let h = and-true (leb firstDerived (s .request)) (leb (s .request) lastDerived) (and-true (isService (s .request)) (phaseTest s (s .phase)) e .0) in
-    (leb→le firstDerived (s .request) (true-T (h .0)), leb→le (s .request) lastDerived (true-T (h .1)))
+sound-service s e = decides-sound s .0 e .service
 
 -- a fresh one with nothing shown or declined: the count decides
 pub untouched-count : (s : Session) → s .shown ≡ 0 → s .declined ≡ 0 → eqb (s .count) 0 ≡ phaseTest s fresh
@@ -67,20 +65,15 @@ untouched-count s p q = ap (λ (b : Bool). b && eqb (s .count) 0) (sym (both-tru
 
 -- its count is small
 pub sound-count : (s : Session) → isSound s ≡ true → s .count ≤ 65
-sound-count s e = go (s .phase) (and-true (isService (s .request)) (phaseTest s (s .phase)) e .1)
+sound-count s e = go (s .phase) (decides-sound s .0 e .phase)
   where
-    counted : countTest s ≡ true → s .count ≤ 65
-    counted t =
-        let most = 1 + size (union (s .shown) (s .declined)) in
-        let h = and-true (leb 1 (s .count)) (leb (s .count) most) t in
-        omega (arith, leb→le (s .count) most (true-T (h .1)), size-most (union (s .shown) (s .declined)))
+    counted : CountKept s → s .count ≤ 65
+    counted h = omega (arith, h .1, size-most (union (s .shown) (s .declined)))
 
-    go : (ph : Phase) → phaseTest s ph ≡ true → s .count ≤ 65
-    go fresh t =
-        let zero-count = eqb-true (s .count) 0 (and-true (eqb (s .shown) 0 && eqb (s .declined) 0) (eqb (s .count) 0) t .1) in
-        omega (arith, zero-count)
-    go (waiting q) t = counted (and-true (questionTest s q) (countTest s) t .1)
-    go (closed v) t = counted t
+    go : (ph : Phase) → PhaseKept s ph → s .count ≤ 65
+    go fresh h = omega (arith, h .2)
+    go (waiting q) h = counted (h .1)
+    go (closed v) h = counted h
 
 -- ---- opening
 

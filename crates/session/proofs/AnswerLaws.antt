@@ -1,0 +1,154 @@
+-- What the ending of a round says of the sets shown and declined. Assumes nothing.
+use mathlib.Core.Path.{_∙_, _≡_, ap, refl, sym}
+use mathlib.Core.Logic.{_≢_, _⊎_, inl, inr}
+use mathlib.Core.Bool.{Bool, false, true, true≢false}
+use mathlib.Core.Option.{Option, none, some}
+use Prim.Native.Nat.{_<_, _^_, ℕ}
+use native.Mathlib.Omega.{arith}
+use Rattle.atoms.specs.Sets.{Member, Subset, difference, empty, union}
+use Rattle.atoms.proofs.SetLaws.{difference-iff, inhabited, none-in-empty, union-empty}
+use Rattle.atoms.proofs.SizeLaws.{low-lt}
+use Rattle.rules.specs.Rules.{Every}
+use Rattle.evaluation.specs.Unlocking.{unlocks}
+use Rattle.model.specs.Disclosure.{Askable, askable, disclosable}
+use Rattle.model.proofs.DisclosureLaws.{Low, askable-credential, askable-iff, disclosable-adds}
+use Rattle.search.specs.Question.{Preferred, Question, chosen, noQuestion, opensWith}
+use Rattle.search.specs.Theorems.{PreferredOf}
+use Rattle.search.proofs.TheoremsProof as search
+use Rattle.session.specs.Endings.{Ending, Policy, ask, conclude, deny, ending, grant, obtainable}
+
+-- ---- the ending, of a policy whose disclosure heads are credentials
+
+-- A way to unlock the service: a set of disclosable credentials, none of them shown or declined, that unlocks it beside those shown; by the tests.
+pub record Way (pol : Policy) (r P N : ℕ) (q : Question) : Type 0 where
+  pub disclosed : Subset (q .asks) (disclosable (pol .disclosure) P)
+  pub unshown : (k : ℕ) → Member k (q .asks) → Member k P → ⊥
+  pub undeclined : (k : ℕ) → Member k (q .asks) → Member k N → ⊥
+  pub opens : unlocks (pol .access) r (union P (q .asks)) ≡ true
+
+module _ (pol : Policy) (low : Every Low (pol .disclosure)) (r P N : ℕ) where
+  pub record Obtainable (k : ℕ) : Type 0 where
+    pub askable-one : Member k (askable (pol .disclosure))
+    pub below-16 : k < 16
+    pub not-shown : Member k P → ⊥
+    pub not-declined : Member k N → ⊥
+
+  -- everything disclosable
+  abbrev E : ℕ
+  E = disclosable (pol .disclosure) P
+
+  D : ℕ
+  D = obtainable pol P N
+
+  -- what is in D is disclosable, not shown and not declined
+  D-parts : (k : ℕ) → Member k D → Member k E × (Member k P → ⊥) × (Member k N → ⊥)
+  unfolding D
+  D-parts k m =
+      let h = difference-iff (difference E P) N k .0 m in
+      let g = difference-iff E P k .0 (h .0) in
+      (g .0, g .1, h .1)
+
+  D-obtainable : (k : ℕ) → Member k D → Obtainable k
+  D-obtainable k m = record {
+    askable-one = askable-iff (pol .disclosure) low k .1 a;
+    below-16 = let l = askable-credential (pol .disclosure) low k a in omega arith;
+    not-shown = h .1;
+    not-declined = h .2;
+  }
+    where
+      h : Member k E × (Member k P → ⊥) × (Member k N → ⊥)
+      h = D-parts k m
+
+      go : Member k P ⊎ Askable (pol .disclosure) k → Askable (pol .disclosure) k
+      go (inl i) = absurd (h .1 i)
+      go (inr i) = i
+
+      a : Askable (pol .disclosure) k
+      a = go (disclosable-adds (pol .disclosure) P k (h .0))
+
+  pub obtainable-low : (k : ℕ) → Member k (obtainable pol P N) → k < 16
+  unfolding D
+  obtainable-low k m = D-obtainable k m .below-16
+
+  way-asks : (q : Question) → Way pol r P N q → Subset (q .asks) D
+  unfolding D
+  way-asks q w k i = difference-iff (difference E P) N k .1 (difference-iff E P k .1 (w .disclosed k i, w .unshown k i), w .undeclined k i)
+
+  pub way-within : (q : Question) → Subset (q .asks) (obtainable pol P N) → opensWith (pol .access) r P q ≡ true → Way pol r P N q
+  unfolding D
+  way-within q f e = record {
+    disclosed = λ k i. D-parts k (f k i) .0;
+    unshown = λ k i. D-parts k (f k i) .1;
+    undeclined = λ k i. D-parts k (f k i) .2;
+    opens = e;
+  }
+
+  -- where the shown ones unlock the service, asking nothing does
+  pub way-empty : unlocks (pol .access) r P ≡ true → Way pol r P N noQuestion
+  way-empty e = record {
+    disclosed = λ k i. absurd (none-in-empty k i);
+    unshown = λ k i. absurd (none-in-empty k i);
+    undeclined = λ k i. absurd (none-in-empty k i);
+    opens = ap (unlocks (pol .access) r) (union-empty P) ∙ e;
+  }
+
+  -- a question: the first in the order of preference of the ways
+  pub record FirstWay (q : Question) : Type 0 where
+    pub way : Way pol r P N q
+    pub first : (x : Question) → Way pol r P N x → x ≢ q → Preferred q x
+    pub some-one : (k : ℕ) × Member k (q .asks)
+    pub all : (k : ℕ) → Member k (q .asks) → Obtainable k
+
+  -- what each ending says
+  abbrev pub Says : Ending → Type 0
+  Says grant = unlocks (pol .access) r P ≡ true
+  Says deny = (unlocks (pol .access) r P ≡ false) × ((q : Question) → Way pol r P N q → ⊥)
+  Says (ask q) = (unlocks (pol .access) r P ≡ false) × FirstWay q
+
+  -- D is a set of credentials
+  D-lt : D < 2 ^ 16
+  D-lt = low-lt D 16 (λ k m. D-obtainable k m .below-16)
+
+  pub ending-says : Says (ending pol r P N)
+  unfolding ending D
+  ending-says = go (unlocks (pol .access) r P) refl (chosen (pol .access) r P D) refl
+    where
+      go : (b : Bool) → unlocks (pol .access) r P ≡ b → (o : Option Question) → chosen (pol .access) r P D ≡ o → Says (conclude b o)
+      go true e o f = e
+      go false e none f = (e, λ q w. true≢false (sym (w .opens) ∙ search.theorems .denied (pol .access) r P D D-lt .0 f q (way-asks q w)))
+      go false e (some q) f = (
+        e,
+        record {
+          way = way-within q (F .inside) (F .unlocking);
+          first = λ x w n. F .first x (way-asks x w) (w .opens) n;
+          some-one = inhabited (q .asks) (λ z. true≢false (sym (F .unlocking) ∙ ap (unlocks (pol .access) r) (idle z) ∙ e));
+          all = λ k m. D-obtainable k (F .inside k m);
+        },
+      )
+        where
+          F : PreferredOf (pol .access) r P D q
+          F = search.theorems .asked (pol .access) r P D D-lt q .0 f
+
+          idle : q .asks ≡ empty → union P (q .asks) ≡ P
+          idle z = ap (λ (x : ℕ). union P x) z ∙ union-empty P
+
+  -- the first of the ways is asked
+  pub ending-is-ask : unlocks (pol .access) r P ≡ false → (q : Question) → Way pol r P N q
+      → ((x : Question) → Way pol r P N x → x ≢ q → Preferred q x) → ending pol r P N ≡ ask q
+  unfolding ending D
+  ending-is-ask e q w f =
+      ap (λ (b : Bool). conclude b (chosen (pol .access) r P D)) e
+      ∙ ap (conclude false) (search.theorems .asked (pol .access) r P D D-lt q .1 first)
+    where
+      first : PreferredOf (pol .access) r P D q
+      first = record { inside = way-asks q w; unlocking = w .opens; first = λ x g t n. f x (way-within x g t) n }
+
+-- the endings are apart
+pub grant≢deny : grant ≢ deny
+grant≢deny e = let z : _≡_ {A = ℕ} 0 1 = cc in omega arith
+
+pub ask≢deny : (q : Question) → ask q ≢ deny
+ask≢deny q e = let z : _≡_ {A = ℕ} 0 1 = cc in omega arith
+
+pub ask≢grant : (q : Question) → ask q ≢ grant
+ask≢grant q e = let z : _≡_ {A = ℕ} 0 1 = cc in omega arith

@@ -1,0 +1,14 @@
+-- The theorems of specs/Theorems. Assumes nothing.
+use Rattle.session.specs.Theorems.{Theorems}
+use Rattle.session.proofs.SessionLaws.{decides-closed, decides-service, decides-sound}
+use Rattle.session.proofs.TypeLaws.{opened-one, outcome-one, session-one}
+
+pub theorems : Theorems
+theorems = record {
+  service = decides-service;
+  sound = decides-sound;
+  finished = decides-closed;
+  session-one = session-one;
+  outcome-one = outcome-one;
+  opened-one = opened-one;
+}
