@@ -4,11 +4,13 @@
     scripts/expected_cases.py            print it
     scripts/expected_cases.py --check    say whether crates/cases/stdout has it
 
-Only the inputs, the table of one-record policies, are read from crates/cases/src/singles.rt.
+Only the inputs, the table of one-record policies, are read from crates/cases/src/singles.rt. Rounds are worked out by rounds.py.
 """
 import pathlib
 import re
 import sys
+
+from rounds import POLICY_A, Session, accepted_round, credentials, is_service, number, refusal
 
 ROOT = pathlib.Path(__file__).resolve().parent.parent
 ALWAYS_16 = (1, 16, set(), set())
@@ -60,6 +62,110 @@ def one_record():
         yield name, answer(18, [(int(kind), int(head), *sides)])
 
 
+def fields(session):
+    word, question = session.phase
+    waits = f" {number(question):04x}" if word == "waiting" else ""
+    sets = f"shown {number(session.shown):04x} declined {number(session.declined):04x}"
+    return f"request {session.request} {sets} count {session.count} {word}{waits}"
+
+
+def opening(request):
+    said = fields(fresh(request)) if is_service(request) else "refused 7"
+    return f"opening {request}", said
+
+
+def round_in(name, length, records, session, shown):
+    """A round under the policy of `length` bytes that begins with these records."""
+    said, after = answer(length, records), session
+    if said == "accepted":
+        turned_back = refusal(session)
+        said = f"refused {turned_back}"
+        if not turned_back:
+            said, after = accepted_round(records, session, credentials(shown))
+    return name, f"{said}; {fields(after)}"
+
+
+def under_a(name, session, shown):
+    return round_in(name, 108, POLICY_A, session, shown)
+
+
+def made(request, shown, declined, count, word, question=0):
+    phase = (word, credentials(question))
+    return Session(request, credentials(shown), credentials(declined), count, phase)
+
+
+def fresh(request, shown=0, declined=0, count=0):
+    return made(request, shown, declined, count, "fresh")
+
+
+def waiting(question, shown, declined, count):
+    return made(16, shown, declined, count, "waiting", question)
+
+
+def granted(shown, declined, count):
+    return made(16, shown, declined, count, "closed granted")
+
+
+def denied(request, shown, declined, count):
+    return made(request, shown, declined, count, "closed denied")
+
+
+def soundness():
+    yield under_a("fresh", fresh(16), 0)
+    yield under_a("fresh, shown", fresh(16, shown=1), 0)
+    yield under_a("fresh, declined", fresh(16, declined=0x8000), 0)
+    yield under_a("fresh, count 1", fresh(16, count=1), 0)
+    yield under_a("waiting", waiting(4, 0, 0, 1), 0)
+    yield under_a("waiting, Q empty", waiting(0, 0, 0, 1), 0)
+    yield under_a("waiting, Q partly shown", waiting(3, 2, 0, 1), 3)
+    yield under_a("waiting, Q partly declined", waiting(3, 0, 1, 1), 3)
+    yield under_a("waiting, Q never asked", waiting(0x8000, 0, 0, 1), 0)
+    for count in (0, 1, 2, 3):
+        name = f"waiting, count {count}" + (" of 2" if count else "")
+        yield under_a(name, waiting(3, 0, 4, count), 3)
+    for count in (2, 3):
+        yield under_a(f"in both, count {count} of 2", waiting(4, 32, 32, count), 0)
+    for count in (16, 17, 255):
+        yield under_a(f"count {count} of 16", waiting(4, 0xFF00, 0xFB, count), 4)
+
+
+def closed_sessions():
+    yield under_a("granted", granted(3, 4, 3), 1)
+    yield under_a("denied", denied(16, 0, 0, 1), 3)
+    yield under_a("granted, count 0", granted(3, 4, 0), 0)
+    yield under_a("granted, count 4 of 4", granted(3, 4, 4), 0)
+    yield under_a("granted, count 5 of 4", granted(3, 4, 5), 0)
+    yield under_a("denied, count 0", denied(16, 0, 0, 0), 0)
+    yield under_a("denied, count 2 of 1", denied(16, 0, 0, 2), 0)
+    yield under_a("in both, count 4 of 3", denied(16, 3, 2, 4), 0)
+    yield under_a("count 17 of 17", denied(16, 0xFFFF, 3, 17), 0)
+    yield under_a("count 18 of 17", denied(16, 0xFFFF, 3, 18), 0)
+
+
+def order():
+    yield round_in("1 byte, request 15", 1, [], fresh(15, 1, 2, 3), 4)
+    yield round_in("1 byte, Q empty", 1, [], waiting(0, 1, 2, 3), 4)
+    yield round_in("1 byte, granted", 1, [], granted(1, 2, 3), 4)
+    yield round_in("1 byte, waiting", 1, [], waiting(8, 1, 2, 3), 4)
+    yield round_in("request 63, not sound", 0, [], fresh(63, 1, 2, 3), 4)
+    yield round_in("request 63, denied", 0, [], denied(63, 1, 2, 3), 4)
+    yield round_in("granted, not sound", 0, [], granted(1, 2, 4), 4)
+    yield round_in("granted, sound", 0, [], granted(1, 2, 3), 4)
+
+
+def sessions():
+    for request in (0, 15, 16, 62, 63, 255, 272, 65535):
+        yield opening(request)
+    for request in (15, 16, 62, 63, 272):
+        yield under_a(f"request {request}", fresh(request), 5 if request == 63 else 3)
+    yield from soundness()
+    yield from closed_sessions()
+    yield from order()
+    yield under_a("16 and no breach", fresh(16), 4)
+    yield under_a("16 and a breach", fresh(16), 5)
+    yield under_a("16 twice over and a breach", waiting(2, 5, 0, 2), 2)
+
+
 def lines():
     for length in (0, 17, 18, 19, 2303, 2304, 2305, 2322):
         yield f"{length} bytes", answer(length, [ALWAYS_16] * 129)
@@ -77,6 +183,7 @@ def lines():
     yield "6 at record 0, 3 at record 1", answer(2304, records)
     yield "the same, cut short", answer(2303, records)
     yield "the same, too long", answer(2305, records)
+    yield from sessions()
 
 
 def main():

@@ -1,6 +1,7 @@
 // Document 01's run-only cases: prints the answer to each.
 mod policies;
 mod print;
+mod sessions;
 mod singles;
 mod write;
 
@@ -9,4 +10,12 @@ fn main() {
     singles::run();
     policies::pairs();
     policies::records_in_turn();
+    sessions::openings();
+    sessions::requests();
+    sessions::fresh_sessions();
+    sessions::questions();
+    sessions::counts();
+    sessions::closed_sessions();
+    sessions::order();
+    sessions::breaches();
 }

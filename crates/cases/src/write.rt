@@ -4,7 +4,9 @@ ghost use Prim.Native.Nat.{_<_};
 ghost use lib.ListN.{length};
 use atoms::AtomSet;
 use atoms::FIRST_DERIVED;
+use atoms::VIOLATION;
 use records::ACCESS;
+use records::DISCLOSURE;
 
 // An access record for atom 16 with an empty body, 129 times: one record too many.
 pub(crate) fn always_16() -> [u8; 2322]
@@ -17,6 +19,34 @@ pub(crate) fn always_16() -> [u8; 2322]
         policy[18 * k + 1] = FIRST_DERIVED;
         k += 1;
     }
+    policy
+}
+
+// Document 01's policy A.
+pub(crate) fn policy_a() -> [u8; 108]
+    ensures { λ r. ⌜ length r ≡ 108 ⌝ }
+{
+    let mut policy = [0u8; 108];
+    // 16 if 0, 1
+    policy[0] = ACCESS;
+    policy[1] = FIRST_DERIVED;
+    policy[2] = 0b0011;
+    // 16 if 2, not 3
+    policy[18] = ACCESS;
+    policy[19] = FIRST_DERIVED;
+    policy[20] = 0b0100;
+    policy[28] = 0b1000;
+    // 63 if 0, 2
+    policy[36] = ACCESS;
+    policy[37] = VIOLATION;
+    policy[38] = 0b0101;
+    // Disclosure: 0 always; 1 if 0; 2 always
+    policy[54] = DISCLOSURE;
+    policy[72] = DISCLOSURE;
+    policy[73] = 1;
+    policy[74] = 0b0001;
+    policy[90] = DISCLOSURE;
+    policy[91] = 2;
     policy
 }
 

@@ -1,0 +1,104 @@
+"""Document 01's sessions, from its definitions and not from our code.
+
+A policy is a list of records: kind, head, positive atoms, negated atoms.
+"""
+import collections
+import itertools
+
+Session = collections.namedtuple("Session", "request shown declined count phase")
+EMPTY = frozenset()
+POLICY_A = [
+    (1, 16, {0, 1}, set()),
+    (1, 16, {2}, {3}),
+    (1, 63, {0, 2}, set()),
+    (2, 0, set(), set()),
+    (2, 1, {0}, set()),
+    (2, 2, set(), set()),
+]
+
+
+def number(atoms):
+    return sum(1 << atom for atom in atoms)
+
+
+def credentials(bits):
+    return frozenset(atom for atom in range(16) if bits >> atom & 1)
+
+
+def subsets(atoms):
+    """Fewest atoms first, then the smallest as a number."""
+    for size in range(len(atoms) + 1):
+        yield from sorted((frozenset(some) for some in itertools.combinations(atoms, size)), key=number)
+
+
+def least(start, rules):
+    """The least set that holds `start` and is closed under rules (head, positive atoms)."""
+    reached = start
+    while True:
+        more = reached | {head for head, positive in rules if positive <= reached}
+        if more == reached:
+            return reached
+        reached = more
+
+
+def model(policy, shown):
+    """The one stable set, found by trying them all."""
+    rules = [record[1:] for record in policy if record[0] == 1]
+    stable = []
+    for some in subsets({head for head, _, _ in rules}):
+        tried = shown | some
+        if tried == least(shown, [(head, positive) for head, positive, negated in rules if not negated & tried]):
+            stable.append(tried)
+    (only,) = set(stable)
+    return only
+
+
+def unlocks(policy, shown, request):
+    atoms = model(policy, shown)
+    return request in atoms and 63 not in atoms
+
+
+def disclosable(policy, shown):
+    return least(shown, [record[1:3] for record in policy if record[0] == 2])
+
+
+def is_service(request):
+    return 16 <= request <= 62
+
+
+def is_sound(session):
+    word, question = session.phase
+    in_range = 1 <= session.count <= 1 + len(session.shown | session.declined)
+    if not is_service(session.request):
+        return False
+    if word == "fresh":
+        return not session.shown and not session.declined and session.count == 0
+    if word == "waiting":
+        return bool(question) and not question & session.shown and not question & session.declined and in_range
+    return in_range
+
+
+def refusal(session):
+    """7, 8, 9 or None: of a round under an accepted policy."""
+    if not is_service(session.request):
+        return 7
+    if not is_sound(session):
+        return 8
+    return 9 if session.phase[0].startswith("closed") else None
+
+
+def accepted_round(policy, session, given):
+    """The answer and the next session."""
+    question = session.phase[1]
+    shown = session.shown | given
+    declined = session.declined | (question - given)
+
+    def after(phase):
+        return Session(session.request, shown, declined, session.count + 1, phase)
+
+    if unlocks(policy, shown, session.request):
+        return "grant", after(("closed granted", EMPTY))
+    for asked in subsets(disclosable(policy, shown) - shown - declined):
+        if unlocks(policy, shown | asked, session.request):
+            return f"ask {number(asked):04x}", after(("waiting", asked))
+    return "deny", after(("closed denied", EMPTY))
