@@ -11,3 +11,4 @@ pub mod PromiseProof
 pub mod CallsProof
 pub mod MarkedCases
 pub mod ClaimsProof
+pub mod ReplayLaws
