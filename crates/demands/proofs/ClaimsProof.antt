@@ -30,6 +30,7 @@ claims = record {
   constants = record {
     last-credential = refl;
     first-derived = refl;
+    last-derived = refl;
     breach-mark = refl;
     access = refl;
     disclosure = refl;

@@ -162,7 +162,7 @@ module _ (bytes : List ℕ) (b : Bytes bytes) (w : WellFormed bytes) (r : ℕ) (
       go : (o : Outcome) → Case past m o
           → ((t : Turn) → acceptedOf (t ∷ before) ≡ past → Whole (t ∷ before) past (run (round bytes) (sessionFrom r past) ms))
           → ((t : Turn) → acceptedOf (t ∷ before) ≡ u ∷ past → Genuine pol low r past u
-              → Whole (t ∷ before) (u ∷ past) (run (round bytes) (sessionFrom r (u ∷ past)) ms))
+          → Whole (t ∷ before) (u ∷ past) (run (round bytes) (sessionFrom r (u ∷ past)) ms))
           → Next o
       go o (stays a k h e) f f′ =
           let t : Turn = record { takes = m; gives = record { answer = a; session = sessionFrom r past } } in

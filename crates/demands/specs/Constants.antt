@@ -1,7 +1,7 @@
 -- Document 01's own numbers, held against the names that stand for them. Assumes nothing.
 use mathlib.Core.Path.{_≡_}
 use mathlib.Core.List.{[], _∷_}
-use Rattle.atoms.specs.Atoms.{firstDerived, lastCredential, violation}
+use Rattle.atoms.specs.Atoms.{firstDerived, lastCredential, lastDerived, violation}
 use Rattle.atoms.specs.LittleEndian.{littleEndian}
 use Rattle.records.specs.Records.{accessKind, disclosureKind}
 use Rattle.policy.specs.WrittenForm.{at, recordNumber, refusalNumber}
@@ -10,6 +10,7 @@ pub record Constants : Type 0 where
   -- "Atoms 0 to 15 are credentials, 16 to 62 derived (roles and services), 63 is the breach mark."
   pub last-credential : lastCredential ≡ 15
   pub first-derived : firstDerived ≡ 16
+  pub last-derived : lastDerived ≡ 62
   pub breach-mark : violation ≡ 63
   -- "Byte 0 is the kind: 1 access, 2 disclosure."
   pub access : accessKind ≡ 1

@@ -27,9 +27,7 @@ pub record Demand1 (bytes : List ℕ) (s : Session) (o : Outcome) : Type 0 where
   pub finished : WellFormed bytes → SoundSession s → Finished s → RefusedWith s o (number 9)
   -- every other round "ends in grant, deny or a question"
   pub accepted : WellFormed bytes → SoundSession s → (Finished s → ⊥) → (e : Ending) × (o .answer ≡ ends e)
-
-  -- ---- and no round is answered so but those
-
+  -- and no round is answered so but those
   pub only-policy : (f : W.Refusal) → (o .answer ≡ refuse (ofPolicy f)) ↔ PolicyRefused bytes f
   pub only-request : (o .answer ≡ refuse (number 7)) ↔ (WellFormed bytes × (Service (s .request) → ⊥))
   pub only-unsound : (o .answer ≡ refuse (number 8)) ↔ (WellFormed bytes × (Service (s .request) × (SoundSession s → ⊥)))
