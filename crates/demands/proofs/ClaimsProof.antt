@@ -7,7 +7,9 @@ use Rattle.records.proofs.TheoremsProof as records
 use Rattle.policy.proofs.TheoremsProof as policy
 use Rattle.evaluation.proofs.TheoremsProof as evaluation
 use Rattle.model.proofs.TheoremsProof as model
+use Rattle.search.proofs.TheoremsProof as search
 use Rattle.session.specs.Sessions.{Session}
+use Rattle.session.proofs.TheoremsProof as session
 use Rattle.demands.specs.Claims.{Claims}
 use Rattle.demands.specs.Demand3.{Demand3, Demand3Holds}
 use Rattle.demands.specs.Lists.{Linked}
@@ -17,6 +19,7 @@ use Rattle.demands.proofs.Demand3Proof.{demand3}
 use Rattle.demands.proofs.ListLaws.{lists-mean}
 use Rattle.demands.proofs.MarkedCases.{marked}
 use Rattle.demands.proofs.PromiseProof.{always-sound, demand1, opened-by, opening-promise, round-promise}
+use Rattle.demands.proofs.TypeLaws.{replayed-one}
 
 -- the session is the one that opening gave
 demand3-holds : Demand3Holds
@@ -43,11 +46,14 @@ claims = record {
   policies = policy.theorems;
   arrays = evaluation.theorems;
   answers = model.theorems;
+  searches = search.theorems;
+  sessions = session.theorems;
   opens = λ r l. opening-promise r;
   demand1 = λ bytes b s h m l. demand1 bytes b s m;
   demand2 = λ bytes b s h m l. round-promise bytes b s m;
   demand3 = demand3-holds;
   program = program-meets demand3-holds;
+  replayed-one = replayed-one;
   lists = lists-mean;
   always-sound = λ r s e vs f.
       let (service, is) = opened-by r s e in

@@ -10,5 +10,6 @@ pub mod Demand3Proof
 pub mod PromiseProof
 pub mod CallsProof
 pub mod MarkedCases
+pub mod TypeLaws
 pub mod ClaimsProof
 pub mod ReplayLaws

@@ -14,6 +14,8 @@ use Rattle.records.specs.Theorems as records
 use Rattle.policy.specs.Theorems as policy
 use Rattle.evaluation.specs.Theorems as evaluation
 use Rattle.model.specs.Theorems as model
+use Rattle.search.specs.Theorems as search
+use Rattle.session.specs.Theorems as session
 use Rattle.session.specs.Rounds.{Move, gives, opening, round}
 use Rattle.session.specs.Sessions.{Session, SixteenBit}
 use Rattle.demands.specs.Calls.{ProgramMeetsDemand3}
@@ -23,6 +25,8 @@ use Rattle.demands.specs.Demand3.{Demand3Holds}
 use Rattle.demands.specs.Lists.{ListsMean}
 use Rattle.demands.specs.Marked.{Marked}
 use Rattle.demands.specs.Promises.{AlwaysSound, Fits, Opening, RoundPromise, Visit}
+use Rattle.demands.specs.Types.{replayedOf}
+use Rattle.demands.specs.declared.Replayed.{Replayed}
 
 pub record Claims : Type 1 where
   -- the paper's numbers
@@ -39,6 +43,10 @@ pub record Claims : Type 1 where
   pub arrays : evaluation.Theorems
   -- the model and the disclosable set of a policy, or its refusal; the askable credentials, which d and u count
   pub answers : model.Theorems
+  -- the preferred question: which one it is, and that the search by arrays gives it
+  pub searches : search.Theorems
+  -- the tests of a session, and what the program's sessions and outcomes mean
+  pub sessions : session.Theorems
   -- what opening gives for each request, a 16-bit number
   pub opens : (r : ℕ) → r < 2 ^ 16 → Opening r (opening r)
   -- demand 1, and demand 2 with what an accepted round does to the session, of a round of any session of 16-bit sets
@@ -48,6 +56,7 @@ pub record Claims : Type 1 where
   -- demand 3, of the definitions and of the program's calls; and what its lists say
   pub demand3 : Demand3Holds
   pub program : ProgramMeetsDemand3
+  pub replayed-one : (x y : Replayed) → replayedOf x ≡ replayedOf y → x ≡ y
   pub lists : ListsMean
   -- "Every session that opening and rounds give is sound, also when policies are changed between rounds. The longest sessions have 17 rounds."
   pub always-sound : (r : ℕ) (s : Session) → opening r ≡ gives s → (vs : List Visit) → Every Fits vs → AlwaysSound s vs

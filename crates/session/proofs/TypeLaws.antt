@@ -24,11 +24,11 @@ use Rattle.session.specs.declared.answer.Ending.the-variants.{Ask, Deny,
 use Rattle.session.specs.declared.refusal.Refusal.{Refusal}
 use Rattle.session.specs.declared.refusal.Refusal.the-variants as refusal
 
-refusalBack : R.Refusal → Refusal
+pub refusalBack : R.Refusal → Refusal
 refusalBack (R.ofPolicy f) = refusal.Policy (policy.refusalBack f)
 refusalBack (R.number n) = cond (eqb n 7) refusal.Request (cond (eqb n 8) refusal.Unsound refusal.Closed)
 
-refusal-back : (x : Refusal) → refusalBack (refusalOf x) ≡ x
+pub refusal-back : (x : Refusal) → refusalBack (refusalOf x) ≡ x
 unfolding refusalBack
 refusal-back (refusal.Policy f) = ap refusal.Policy (policy.refusal-back f)
 refusal-back refusal.Request = refl
@@ -55,10 +55,10 @@ phase-back Fresh = refl
 phase-back (Waiting q) = refl
 phase-back (Closed v) = ap Closed (verdict-back v)
 
-sessionBack : S.Session → Session
+pub sessionBack : S.Session → Session
 sessionBack s = record { request = s .request; shown = s .shown; declined = s .declined; count = s .count; phase = phaseBack (s .phase) }
 
-session-back : (x : Session) → sessionBack (sessionOf x) ≡ x
+pub session-back : (x : Session) → sessionBack (sessionOf x) ≡ x
 unfolding sessionBack
 session-back x =
     ap (λ (p : Phase). record { request = x .request; shown = x .shown; declined = x .declined; count = x .count; phase = p }) (phase-back (x .phase))
@@ -83,10 +83,10 @@ unfolding answerBack
 answer-back (Ends e) = ap Ends (ending-back e)
 answer-back (Refused f) = ap Refused (refusal-back f)
 
-outcomeBack : O.Outcome → Outcome
+pub outcomeBack : O.Outcome → Outcome
 outcomeBack o = record { answer = answerBack (o .answer); session = sessionBack (o .session) }
 
-outcome-back : (x : Outcome) → outcomeBack (outcomeOf x) ≡ x
+pub outcome-back : (x : Outcome) → outcomeBack (outcomeOf x) ≡ x
 unfolding outcomeBack
 outcome-back x =
     ap (λ (a : Answer). record { answer = a; session = sessionBack (sessionOf (x .session)) }) (answer-back (x .answer))
