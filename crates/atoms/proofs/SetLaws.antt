@@ -62,7 +62,7 @@ bit-difference a b (suc k) =
 half-power : (h : ℕ) → 2 ^ suc h / 2 ≡ 2 ^ h
 half-power h = omega arith
 
-bit-one : (h : ℕ) → bit (2 ^ h) h ≡ 1
+pub bit-one : (h : ℕ) → bit (2 ^ h) h ≡ 1
 bit-one zero = refl
 bit-one (suc h) = bit-next (2 ^ suc h) h ∙ ap (λ (x : ℕ). bit x h) (half-power h) ∙ bit-one h
 
@@ -240,7 +240,7 @@ single-is h l = ap (λ (b : Bool). cond b (2 ^ h) 0) (le-true h violation l)
 pub single-own : (h : ℕ) → h ≤ violation → Member h (single h)
 single-own h l = ap (λ (x : ℕ). bit x h) (single-is h l) ∙ bit-one h
 
-power-member : (h k : ℕ) → Member k (2 ^ h) → k ≡ h
+pub power-member : (h k : ℕ) → Member k (2 ^ h) → k ≡ h
 power-member h k m = go (ℕ-discrete h k)
   where
     go : Dec (h ≡ k) → k ≡ h

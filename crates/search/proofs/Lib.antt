@@ -1,6 +1,8 @@
 -- The laws of preference and of the search, and the theorems.
 pub mod PreferLaws
 pub mod SubsetLaws
+pub mod SplitLaws
 pub mod NextLaws
+pub mod SizedLaws
 pub mod SearchLaws
 pub mod TheoremsProof

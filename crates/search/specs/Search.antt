@@ -3,7 +3,7 @@ use mathlib.Core.Path.{_≡_}
 use mathlib.Core.Bool.{Bool, _&&_, false, true}
 use mathlib.Core.List.{List}
 use mathlib.Core.Option.{Option, none, some}
-use Prim.Native.Nat.{_<_, _≤_, suc, ℕ}
+use Prim.Native.Nat.{_%_, _<_, _^_, _≤_, suc, ℕ}
 use lib.Dec.{eqb}
 use Rattle.atoms.specs.Sets.{Subset, size, union}
 use Rattle.evaluation.specs.Arrays.{evaluated}
@@ -19,6 +19,19 @@ pub record NextSubset (D s t : ℕ) : Type 0 where
   pub inside : Subset t D
   pub above : s < t
   pub least : (x : ℕ) → Subset x D → s < x → t ≤ x
+
+-- t is the smallest subset of D above s with as many members
+pub record NextOfSize (D s t : ℕ) : Type 0 where
+  pub inside : Subset t D
+  pub sized : size t ≡ size s
+  pub above : s < t
+  pub least : (x : ℕ) → Subset x D → size x ≡ size s → s < x → t ≤ x
+
+-- x is the m lowest members of D
+pub record LowestMembers (D m x : ℕ) : Type 0 where
+  pub bound : ℕ
+  pub is : x ≡ D % 2 ^ bound
+  pub sized : size x ≡ m
 
 -- a set M, as a question, has n members and passes the test
 abbrev pub passesAt : (Question → Bool) → ℕ → ℕ → Bool
