@@ -4,5 +4,6 @@ pub mod SubsetLaws
 pub mod SplitLaws
 pub mod NextLaws
 pub mod SizedLaws
+pub mod StepLaws
 pub mod SearchLaws
 pub mod TheoremsProof

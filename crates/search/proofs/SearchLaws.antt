@@ -1,17 +1,15 @@
 -- The search gives the preferred question: candidates are tried in order of preference. Assumes nothing.
 use mathlib.Core.Path.{_∙_, _≡_, ap, refl, subst, sym}
 use mathlib.Core.Logic.{_⊎_, inl, inr}
-use mathlib.Core.Bool.{Bool, _&&_, cond, false, true, true≢false}
+use mathlib.Core.Bool.{Bool, cond, false, true, true≢false}
 use mathlib.Core.List.{List, [], _∷_}
 use mathlib.Core.Option.{Option, none, some}
 use Prim.Native.Nat.{_<_, _^_, _≤_, suc, ℕ}
-use lib.Dec.{eqb, eqb→eq}
 use native.Mathlib.Omega.{arith}
 use Rattle.atoms.specs.LittleEndian.{Bytes}
 use Rattle.atoms.specs.Sets.{Subset, size, union}
 use Rattle.atoms.proofs.SetLaws.{bit-high, empty-subset, member-low, subset-le}
 use Rattle.atoms.proofs.SizeLaws.{low-lt, size-le, size-same}
-use Rattle.atoms.proofs.TestLaws.{and-true, both-true, eqb-true, not-T-false, true-eqb}
 use Rattle.rules.specs.Rules.{Every}
 use Rattle.rules.proofs.ListLaws.{every-map, every-unmap}
 use Rattle.records.specs.Records.{accessKind, rulesOf}
@@ -21,8 +19,9 @@ use Rattle.evaluation.specs.Unlocking.{grants, unlocks}
 use Rattle.evaluation.proofs.AccessLaws.{laid-model}
 use Rattle.search.specs.Preference.{better, lexBefore, preferred, subsets}
 use Rattle.search.specs.Question.{Question, candidates, chosen, keys, noQuestion, opensWith}
-use Rattle.search.specs.Search.{FirstOfSize, NextSubset, NoneBelow, opensIn, passesAt}
+use Rattle.search.specs.Search.{FirstOfSize, LowestMembers, NextOfSize, NoneBelow, StepOfSize, opensIn}
 use Rattle.search.proofs.PreferLaws.{Before, Order, decides-before, less, lex-connected, more, order, preferred-none, preferred-some, same}
+use Rattle.search.proofs.SizedLaws.{lowest-least}
 use Rattle.search.proofs.SubsetLaws.{subsets-all, subsets-within}
 
 -- ---- the preferred one of the subsets of D
@@ -79,35 +78,30 @@ preferred-same f g h (x ∷ xs) =
 
 -- ---- one size
 
-module _ (test : Question → Bool) where
-  pub passes-not : (n M ones : ℕ) → ones ≡ size M → (ones ≡ n → ⊥) → false ≡ passesAt test n M
-  passes-not n M ones e ne =
-      sym (ap (λ (b : Bool). b && test (record { asks = M })) (not-T-false (eqb (size M) n) (λ t. ne (e ∙ eqb→eq (size M) n t))))
+module _ (test : Question → Bool) (D n : ℕ) (l : D < 2 ^ 16) where
+  -- the n lowest members come first
+  pub none-first : (s : ℕ) → LowestMembers D n s → NoneBelow test D n s
+  none-first s h x f e b = absurd (omega (arith, lowest-least D n s l h x f e))
 
-  pub passes-test : (n M ones : ℕ) → ones ≡ size M → ones ≡ n → (b : Bool) → b ≡ test (record { asks = M }) → b ≡ passesAt test n M
-  passes-test n M ones e en b t = t ∙ sym (ap (λ (b : Bool). b && test (record { asks = M })) (true-eqb (sym e ∙ en)))
+  -- s does not pass, and t comes next
+  pub none-next : (s t : ℕ) → size s ≡ n → NoneBelow test D n s → (b : Bool) → b ≡ test (record { asks = s }) → b ≡ false → NextOfSize D s t
+      → NoneBelow test D n t
+  none-next s t sized h b p z u x f e below = go (order x s)
+    where
+      go : Order x s → test (record { asks = x }) ≡ false
+      go (less m) = h x f e m
+      go (same d) = ap (λ (y : ℕ). test (record { asks = y })) d ∙ sym p ∙ z
+      go (more m) = absurd (omega (arith, u .least x f (e ∙ sym sized) m))
 
-  module _ (D n : ℕ) where
-    pub none-first : NoneBelow test D n 0
-    none-first x f l = absurd (omega arith)
-
-    -- s does not pass, and t comes next
-    pub none-next : (s t : ℕ) → NoneBelow test D n s → (b : Bool) → b ≡ passesAt test n s → b ≡ false → NextSubset D s t → NoneBelow test D n t
-    none-next s t h b p z u x f l = go (order x s)
-      where
-        go : Order x s → passesAt test n x ≡ false
-        go (less m) = h x f m
-        go (same e) = ap (passesAt test n) e ∙ sym p ∙ z
-        go (more m) = absurd (omega (arith, u .least x f m))
-
-    -- D itself comes last
-    pub none-last : (s : ℕ) → s ≡ D → NoneBelow test D n s → (b : Bool) → b ≡ passesAt test n s → b ≡ false → NoneBelow test D n (suc D)
-    none-last s d h b p z x f l = go (order x s)
-      where
-        go : Order x s → passesAt test n x ≡ false
-        go (less m) = h x f m
-        go (same e) = ap (passesAt test n) e ∙ sym p ∙ z
-        go (more m) = absurd (omega arith)
+  -- s does not pass, and comes last
+  pub none-last : (s t : ℕ) → size s ≡ n → NoneBelow test D n s → (b : Bool) → b ≡ test (record { asks = s }) → b ≡ false → StepOfSize D s t → t ≡ 0
+      → NoneBelow test D n (suc D)
+  none-last s t sized h b p z u end x f e below = go (order x s)
+    where
+      go : Order x s → test (record { asks = x }) ≡ false
+      go (less m) = h x f e m
+      go (same d) = ap (λ (y : ℕ). test (record { asks = y })) d ∙ sym p ∙ z
+      go (more m) = absurd (u .last end x f (e ∙ sym sized) m)
 
 -- ---- fewest first
 
@@ -149,11 +143,7 @@ module _ (test : Question → Bool) (D : ℕ) (l : D < 2 ^ 16) where
       go : Order (size x) n → NoneBelow test D n (suc D) → test (record { asks = x }) ≡ false
       go (less k) g = h x f k
       go (more k) g = absurd (omega arith)
-      go (same e) g = pick (test (record { asks = x })) refl
-        where
-          pick : (b : Bool) → test (record { asks = x }) ≡ b → b ≡ false
-          pick true t = absurd (true≢false (sym (both-true (true-eqb e) t) ∙ g x f (omega (arith, at-most))))
-          pick false t = refl
+      go (same e) g = g x f e (omega (arith, at-most))
 
   -- the first of its size is the preferred one
   pub smaller-found : (n : ℕ) → NoneSmaller test D n → (o : Option Question) → FirstOfSize test D n o → (q : Question) → o ≡ some q
@@ -161,18 +151,12 @@ module _ (test : Question → Bool) (D : ℕ) (l : D < 2 ^ 16) where
   smaller-found n h o first q e = e ∙ sym (go (subst (FirstOfSize test D n) e first))
     where
       go : FirstOfSize test D n (some q) → preferred keys test (candidates D) ≡ some q
-      go (f, (p, g)) = one-preferred test D l q f (here .1) after
+      go ((f, sized), (p, g)) = one-preferred test D l q f p after
         where
-          here : (eqb (size (q .asks)) n ≡ true) × (test q ≡ true)
-          here = and-true (eqb (size (q .asks)) n) (test q) p
-
-          sized : size (q .asks) ≡ n
-          sized = eqb-true (size (q .asks)) n (here .0)
-
           after : (x : Question) → Subset (x .asks) D → test x ≡ true → lexBefore (keys x) (keys q) ≡ false
           after x i t =
               not-before x q (λ m. true≢false (sym t ∙ h (x .asks) i (omega (arith, sized))))
-              (λ e m. true≢false (sym (both-true (true-eqb (e ∙ sized)) t) ∙ g (x .asks) i m))
+              (λ e m. true≢false (sym t ∙ g (x .asks) i (e ∙ sized) m))
 
   -- no size is left
   pub smaller-all : (n : ℕ) → NoneSmaller test D n → size D < n → none ≡ preferred keys test (candidates D)

@@ -38,7 +38,7 @@ parts-subset a b p f g k m = go (decLt k p)
 le-mul-pow : (a p : ℕ) → a ≤ a * 2 ^ p
 le-mul-pow a p = subst (λ (x : ℕ). x ≤ a * 2 ^ p) (shl-shr a p) (shr-le (a * 2 ^ p) p)
 
-size-empty : size 0 ≡ 0
+pub size-empty : size 0 ≡ 0
 unfolding size onesIn
 size-empty = refl
 

@@ -1,15 +1,16 @@
 // The search for the preferred question: subsets of what may be asked, in order of preference (document 01, "Sessions").
 ghost use mathlib.Core.Path.{_≡_};
 ghost use mathlib.Core.Bool.{false};
-ghost use Prim.Native.Nat.{ℕ};
+ghost use Rattle.atoms.specs.Sets.{size};
 ghost use Rattle.evaluation.specs.Arrays.{Ordered};
 ghost use Rattle.search.specs.Preference.{preferred};
 ghost use Rattle.search.specs.Question.{candidates, keys, noQuestion};
-ghost use Rattle.search.specs.Search.{FirstOfSize, opensIn, passesAt};
+ghost use Rattle.search.specs.Search.{FirstOfSize, LowestAt, LowestMembers, opensIn};
 ghost use Rattle.search.specs.Types.{foundOf};
 use atoms::AtomSet;
 use evaluation::levels::unlocks;
-use subset::next_subset;
+use subset::lowest_members;
+use subset::next_of_size;
 
 mod subset;
 
@@ -34,10 +35,12 @@ pub fn preferred<'a>(
         ⌜ foundOf r ≡ preferred keys (opensIn (now (heads .entry)) (now (positive .entry)) (now (negated .entry)) (now (starts .entry)) request shown)
             (candidates within) ⌝ }
 {
+    let lowest = lowest_members(within);
     let most = AtomSet::credentials(within).count();
     let mut size: u32 = 1;
     while size <= most {
-        let found = first_of_size(
+        let first = lowest[size as usize];
+        let found = first_from(
             heads,
             positive,
             negated,
@@ -45,7 +48,8 @@ pub fn preferred<'a>(
             request,
             shown,
             within,
-            size,
+            &lowest,
+            first,
         );
         let Found::Nothing = found else {
             return found;
@@ -55,8 +59,8 @@ pub fn preferred<'a>(
     Found::Nothing
 }
 
-// Smallest number first among the subsets of one size.
-fn first_of_size<'a>(
+// Smallest number first, among the subsets with as many members as the first one.
+fn first_from<'a>(
     heads: &'a [u8; 128],
     positive: &'a [u64; 128],
     negated: &'a [u64; 128],
@@ -64,52 +68,31 @@ fn first_of_size<'a>(
     request: u8,
     shown: u16,
     within: u16,
-    size: u32,
+    lowest: &'a [u16; 17],
+    first: u16,
 ) -> Found
-    requires { ⌜ Ordered (now starts) ⌝ }
+    requires { ⌜ (Ordered (now starts) × LowestAt within (now lowest)) × ((first ≡ 0 → ⊥) × LowestMembers within (size first) first) ⌝ }
     ensures { λ r.
-        ⌜ FirstOfSize (opensIn (now (heads .entry)) (now (positive .entry)) (now (negated .entry)) (now (starts .entry)) request shown) within size (foundOf r) ⌝ }
+        ⌜ FirstOfSize (opensIn (now (heads .entry)) (now (positive .entry)) (now (negated .entry)) (now (starts .entry)) request shown) within (size first)
+            (foundOf r) ⌝ }
 {
-    let mut candidate: u16 = 0;
+    let mut candidate = first;
     loop {
-        if passes(
+        let credentials = AtomSet::credentials(shown | candidate);
+        if unlocks(
             heads,
             positive,
             negated,
             starts,
             request,
-            shown,
-            candidate,
-            size,
+            credentials,
         ) {
             return Found::Set(candidate);
         }
-        if candidate == within {
+        let next = next_of_size(candidate, within, lowest);
+        if next == 0 {
             return Found::Nothing;
         }
-        candidate = next_subset(candidate, within);
+        candidate = next;
     }
-}
-
-// The candidate has the given size, and unlocks the request beside the shown set.
-fn passes<'a>(
-    heads: &'a [u8; 128],
-    positive: &'a [u64; 128],
-    negated: &'a [u64; 128],
-    starts: &'a [usize; 10],
-    request: u8,
-    shown: u16,
-    candidate: u16,
-    size: u32,
-) -> bool
-    requires { ⌜ Ordered (now starts) ⌝ }
-    ensures { λ r.
-        ⌜ r ≡ passesAt (opensIn (now (heads .entry)) (now (positive .entry)) (now (negated .entry)) (now (starts .entry)) request shown) size candidate ⌝ }
-{
-    let ones = AtomSet::credentials(candidate).count();
-    if ones != size {
-        return false;
-    }
-    let credentials = AtomSet::credentials(shown | candidate);
-    unlocks(heads, positive, negated, starts, request, credentials)
 }
