@@ -2,7 +2,7 @@
 ghost use mathlib.Core.Path.{_≡_};
 ghost use mathlib.Core.Bool.{false};
 ghost use Prim.Native.Nat.{ℕ};
-ghost use Rattle.evaluation.specs.Arrays.{Ordered};
+ghost use Rattle.evaluation.specs.Arrays.{Placed};
 ghost use Rattle.search.specs.Preference.{preferred};
 ghost use Rattle.search.specs.Question.{candidates, keys, noQuestion};
 ghost use Rattle.search.specs.Search.{FirstOfSize, opensIn, passesAt};
@@ -21,7 +21,7 @@ pub enum Found {
 
 // Fewest first. The rules are in arrays, laid out by level; the shown set alone does not unlock the request.
 pub fn preferred<'a>(
-    heads: &'a [u8; 128],
+    heads: &'a [u64; 128],
     positive: &'a [u64; 128],
     negated: &'a [u64; 128],
     starts: &'a [usize; 10],
@@ -29,7 +29,7 @@ pub fn preferred<'a>(
     shown: u16,
     within: u16,
 ) -> Found
-    requires { ⌜ Ordered (now starts) × (opensIn (now heads) (now positive) (now negated) (now starts) request shown noQuestion ≡ false) ⌝ }
+    requires { ⌜ Placed (now heads) (now starts) × (opensIn (now heads) (now positive) (now negated) (now starts) request shown noQuestion ≡ false) ⌝ }
     ensures { λ r.
         ⌜ foundOf r ≡ preferred keys (opensIn (now (heads .entry)) (now (positive .entry)) (now (negated .entry)) (now (starts .entry)) request shown)
             (candidates within) ⌝ }
@@ -57,7 +57,7 @@ pub fn preferred<'a>(
 
 // Smallest number first among the subsets of one size.
 fn first_of_size<'a>(
-    heads: &'a [u8; 128],
+    heads: &'a [u64; 128],
     positive: &'a [u64; 128],
     negated: &'a [u64; 128],
     starts: &'a [usize; 10],
@@ -66,7 +66,7 @@ fn first_of_size<'a>(
     within: u16,
     size: u32,
 ) -> Found
-    requires { ⌜ Ordered (now starts) ⌝ }
+    requires { ⌜ Placed (now heads) (now starts) ⌝ }
     ensures { λ r.
         ⌜ FirstOfSize (opensIn (now (heads .entry)) (now (positive .entry)) (now (negated .entry)) (now (starts .entry)) request shown) within size (foundOf r) ⌝ }
 {
@@ -93,7 +93,7 @@ fn first_of_size<'a>(
 
 // The candidate has the given size, and unlocks the request beside the shown set.
 fn passes<'a>(
-    heads: &'a [u8; 128],
+    heads: &'a [u64; 128],
     positive: &'a [u64; 128],
     negated: &'a [u64; 128],
     starts: &'a [usize; 10],
@@ -102,7 +102,7 @@ fn passes<'a>(
     candidate: u16,
     size: u32,
 ) -> bool
-    requires { ⌜ Ordered (now starts) ⌝ }
+    requires { ⌜ Placed (now heads) (now starts) ⌝ }
     ensures { λ r.
         ⌜ r ≡ passesAt (opensIn (now (heads .entry)) (now (positive .entry)) (now (negated .entry)) (now (starts .entry)) request shown) size candidate ⌝ }
 {
