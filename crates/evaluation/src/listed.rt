@@ -8,7 +8,7 @@ ghost use Rattle.evaluation.specs.Arrays.{Heads, rulesIn};
 use atoms::AtomSet;
 use records::record_at;
 
-// The first `count` places hold the rules, in the order of their records. A head is the set of that one atom: of atom 0 where no rule is.
+// The first `count` places hold the rules, in the order of their records. A head is the set of that one atom; every place holds one.
 pub struct Listed {
     pub heads: [u64; 128],
     pub positive: [u64; 128],
