@@ -1,14 +1,15 @@
 -- How many atoms a set has, and how large a number it is. Assumes nothing.
-use mathlib.Core.Path.{_∙_, _≡_, ap, refl, subst, sym}
+use mathlib.Core.Path.{_∙_, _≡_, ap, ap₂, refl, subst, sym}
 use mathlib.Core.Logic.{_⊎_, inl, inr}
-use Prim.Native.Nat.{_%_, _+_, _/_, _<_, _^_, _≤_, suc, zero, ℕ}
+use Prim.Native.Nat.{_%_, _+_, _-_, _/_, _<_, _^_, _≤_, suc, zero, ℕ}
 use lib.Arith.{lt-one}
 use lib.Count.{ones as countOnes, ones-le as count-le, ones-step, onesIn}
 use lib.Pow.{pow-pos, shr-shr}
-use native.Mathlib.Nat.{add-le-add, div-lt-iff-lt-mul, eq-or-lt-of-le, le-of-suc-le-suc, not-suc-le-zero, one-mul, zero-lt-suc}
+use native.Mathlib.Nat.{add-le-add, div-lt-iff-lt-mul, eq-or-lt-of-le, le-of-suc-le-suc, not-suc-le-zero, one-mul, pow-suc, zero-lt-suc}
 use native.Mathlib.Omega.{arith}
-use Rattle.atoms.specs.Sets.{Member, Subset, bit, size}
-use Rattle.atoms.proofs.SetLaws.{bit-empty, bit-first, bit-next, ext, in-or-out, member-low, not-in, subset-antisym}
+use Rattle.atoms.specs.Atoms.{violation}
+use Rattle.atoms.specs.Sets.{Member, Subset, bit, single, size}
+use Rattle.atoms.proofs.SetLaws.{bit-empty, bit-first, bit-next, ext, in-or-out, member-low, not-in, single-is, subset-antisym}
 
 -- ---- a set's size, by halves
 
@@ -105,3 +106,25 @@ size-more a b h f n = go (eq-or-lt-of-le (size-le a b f))
 -- a set of credentials has at most 16
 pub size-credentials : (s : ℕ) → s < 2 ^ 16 → size s ≤ 16
 size-credentials s l = subst (λ (x : ℕ). x ≤ 16) (sym (size-is s (omega arith))) (count-le 16 s l)
+
+-- ---- below a set of one atom are as many atoms as its number
+
+onesIn-none : (d : ℕ) → onesIn d 0 ≡ 0
+unfolding onesIn
+onesIn-none zero = refl
+onesIn-none (suc d) = omega (arith, onesIn-none d)
+
+onesIn-below : (d h : ℕ) → h ≤ d → onesIn d (2 ^ h - 1) ≡ h
+unfolding onesIn
+onesIn-below d zero l = onesIn-none d
+onesIn-below zero (suc h) l = absurd (not-suc-le-zero l)
+onesIn-below (suc d) (suc h) l =
+    let twice = pow-suc 2 h in
+    let some = pow-pos h in
+    let odd : (2 ^ suc h - 1) % 2 ≡ 1 = omega arith in
+    let half : (2 ^ suc h - 1) / 2 ≡ 2 ^ h - 1 = omega arith in
+    ap₂ (λ (x y : ℕ). x + onesIn d y) odd half ∙ omega (arith, onesIn-below d h (le-of-suc-le-suc l))
+
+pub size-below : (h : ℕ) → h ≤ violation → size (single h - 1) ≡ h
+unfolding size
+size-below h l = ap (λ (s : ℕ). onesIn 64 (s - 1)) (single-is h l) ∙ onesIn-below 64 h (omega arith)

@@ -29,7 +29,7 @@ module _ (bytes : List ℕ) (b : Bytes bytes) (w : WellFormed bytes) where
   abbrev access : List Rule
   access = rulesOf accessKind bytes
 
-  pub access-headed : Every Headed (rulesOf accessKind bytes)
+  access-headed : Every Headed access
   access-headed = every-imp (Stratified level) Headed (λ r h. h .headed) access (stratified bytes b w)
 
   access-levels : Every (λ r. level (r .head) < 9) access

@@ -1,17 +1,18 @@
 -- Rules in arrays, one place at a time. Assumes nothing.
-use mathlib.Core.Path.{_∙_, _≡_, ap, ap₂, refl, subst, sym}
+use mathlib.Core.Path.{_∙_, _≡_, ap, ap₂, refl, sym}
 use mathlib.Core.Logic.{_⊎_, _≢_, inl, inr}
+use mathlib.Core.Bool.{_&&_, cond}
 use mathlib.Core.List.{List, [], _++_, _∷_}
 use Prim.Native.Nat.{_+_, _-_, _<_, _≤_, suc, zero, ℕ}
 use lib.ListN.{getD, length, set}
 use lib.Seq.{getD-set-other, getD-set-same}
-use native.Mathlib.Nat.{eq-or-lt-of-le}
 use native.Mathlib.Numerals.{add-one}
 use native.Mathlib.Omega.{arith}
+use Rattle.atoms.specs.Sets.{disjoint, subset, union}
 use Rattle.rules.specs.LevelByLevel.{levelByLevel, passOver, settle}
-use Rattle.rules.specs.Rules.{Every, Rule}
-use Rattle.rules.proofs.LoopLaws.{levels-next, levels-none, pass-next, pass-none}
-use Rattle.evaluation.specs.Arrays.{levelsIn, ruleAt, rulesIn}
+use Rattle.rules.specs.Rules.{Rule}
+use Rattle.rules.proofs.LoopLaws.{levels-next, levels-none, pass-next, pass-none, pass-one}
+use Rattle.evaluation.specs.Arrays.{OneAtom, atomOf, levelsIn, ruleAt, rulesIn}
 
 -- arrays that agree at n places from k on hold the same rules there
 rules-same : (h p n h′ p′ n′ : List ℕ) (m k : ℕ) → ((i : ℕ) → k ≤ i → i < k + m → ruleAt h p n i ≡ ruleAt h′ p′ n′ i) → rulesIn h p n k m ≡ rulesIn h′ p′ n′ k m
@@ -19,16 +20,6 @@ unfolding rulesIn
 rules-same h p n h′ p′ n′ zero k f = refl
 rules-same h p n h′ p′ n′ (suc m) k f =
     ap₂ (λ (r : Rule) (rs : List Rule). r ∷ rs) (f k (omega arith) (omega arith)) (rules-same h p n h′ p′ n′ m (suc k) (λ i a b. f i (omega arith) (omega arith)))
-
--- what holds of all of them holds at each place
-pub rules-every : (P : Rule → Type 0) (h p n : List ℕ) (m k : ℕ) → Every P (rulesIn h p n k m) → (i : ℕ) → k ≤ i → i < k + m → P (ruleAt h p n i)
-unfolding rulesIn
-rules-every P h p n zero k e i a b = absurd (omega arith)
-rules-every P h p n (suc m) k e i a b = go (eq-or-lt-of-le a) (λ l. rules-every P h p n m (suc k) (e .1) i l (omega arith))
-  where
-    go : (k ≡ i) ⊎ (k < i) → (k < i → P (ruleAt h p n i)) → P (ruleAt h p n i)
-    go (inl x) ih = subst (λ (j : ℕ). P (ruleAt h p n j)) x (e .0)
-    go (inr x) ih = ih x
 
 -- one place more
 rules-last : (h p n : List ℕ) (m k : ℕ) → rulesIn h p n k (suc m) ≡ rulesIn h p n k m ++ (ruleAt h p n (k + m) ∷ [])
@@ -38,20 +29,20 @@ rules-last h p n (suc m) k =
     let e : suc k + m ≡ k + suc m = omega arith in
     ap (_∷_ (ruleAt h p n k)) (rules-last h p n m (suc k) ∙ ap (λ (i : ℕ). rulesIn h p n (suc k) m ++ (ruleAt h p n i ∷ [])) e)
 
--- ---- a rule is put at a place
+-- ---- a rule is put at a place: its head's set, its positive part and its negated part
 
-module _ (h p n : List ℕ) (at : ℕ) (r : Rule) where
+module _ (h p n : List ℕ) (at H P N : ℕ) where
   abbrev putAt : ℕ → Rule
-  putAt = ruleAt (set h at (r .head)) (set p at (r .positive)) (set n at (r .negated))
+  putAt = ruleAt (set h at H) (set p at P) (set n at N)
 
   abbrev pub putIn : ℕ → ℕ → List Rule
-  putIn = rulesIn (set h at (r .head)) (set p at (r .positive)) (set n at (r .negated))
+  putIn = rulesIn (set h at H) (set p at P) (set n at N)
 
   put-other : (i : ℕ) → i ≢ at → putAt i ≡ ruleAt h p n i
   put-other i e = λ j. record {
-    head = getD-set-other h at i (r .head) 0 e j;
-    positive = getD-set-other p at i (r .positive) 0 e j;
-    negated = getD-set-other n at i (r .negated) 0 e j;
+    head = atomOf (getD-set-other h at i H 0 e j);
+    positive = getD-set-other p at i P 0 e j;
+    negated = getD-set-other n at i N 0 e j;
   }
 
   -- places that the rule is not put at hold what they held
@@ -63,14 +54,15 @@ module _ (h p n : List ℕ) (at : ℕ) (r : Rule) where
       apart (inr l) i a b = λ e. omega arith
 
   -- at the place after them, the rule comes after them
-  pub put-next : at < length h → at < length p → at < length n → (k m : ℕ) → k + m ≡ at → putIn k (suc m) ≡ rulesIn h p n k m ++ (r ∷ [])
+  pub put-next : at < length h → at < length p → at < length n → (k m : ℕ) → k + m ≡ at
+      → putIn k (suc m) ≡ rulesIn h p n k m ++ ((record { head = atomOf H; positive = P; negated = N }) ∷ [])
   put-next a b c k m e = rules-last _ _ _ m k ∙ ap₂ (λ (rs : List Rule) (q : Rule). rs ++ (q ∷ [])) (put-outside k m (inr (omega arith))) here
     where
-      here : putAt (k + m) ≡ r
+      here : putAt (k + m) ≡ record { head = atomOf H; positive = P; negated = N }
       here = ap putAt e ∙ (λ j. record {
-        head = getD-set-same h at (r .head) 0 a j;
-        positive = getD-set-same p at (r .positive) 0 b j;
-        negated = getD-set-same n at (r .negated) 0 c j;
+        head = atomOf (getD-set-same h at H 0 a j);
+        positive = getD-set-same p at P 0 b j;
+        negated = getD-set-same n at N 0 c j;
       })
 
 -- ---- the rules that are left
@@ -87,13 +79,22 @@ module _ (heads positive negated : List ℕ) (k to : ℕ) where
   unfolding rulesIn
   rules-done l = let e : to - k ≡ 0 = omega arith in ap (rulesIn heads positive negated k) e
 
+  -- one rule: the set of its head is added where its body holds
+  pass-one-at : OneAtom (getD heads k 0) → (B S : ℕ)
+      → cond (disjoint (getD negated k 0) B && subset (getD positive k 0) S) (union S (getD heads k 0)) S
+      ≡ passOver B (ruleAt heads positive negated k ∷ []) S
+  pass-one-at o B S =
+      sym (pass-one B (ruleAt heads positive negated k) S
+      ∙ ap (λ (x : ℕ). cond (disjoint (getD negated k 0) B && subset (getD positive k 0) S) (union S x) S) o)
+
   -- a pass over the rules from place k on: N is S after the rule at k
-  pub pass-next-at : k < to → (B S N E : ℕ) → N ≡ passOver B (ruleAt heads positive negated k ∷ []) S
+  pub pass-next-at : k < to → OneAtom (getD heads k 0) → (B S N E : ℕ)
+      → N ≡ cond (disjoint (getD negated k 0) B && subset (getD positive k 0) S) (union S (getD heads k 0)) S
       → passOver B (rulesIn heads positive negated k (to - k)) S ≡ E
       → passOver B (rulesIn heads positive negated (k + 1) (to - (k + 1))) N ≡ E
-  pass-next-at l B S N E n e =
+  pass-next-at l o B S N E n e =
       let rest = rulesIn heads positive negated (k + 1) (to - (k + 1)) in
-      ap (passOver B rest) n
+      ap (passOver B rest) (n ∙ pass-one-at o B S)
       ∙ sym (pass-next B (ruleAt heads positive negated k) rest S)
       ∙ sym (ap (λ (rs : List Rule). passOver B rs S) (rules-next l))
       ∙ e

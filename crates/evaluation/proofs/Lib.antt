@@ -1,4 +1,5 @@
 -- The laws behind the loops, and the theorems.
+pub mod HeadLaws
 pub mod ArrayLaws
 pub mod ListedLaws
 pub mod CountLaws

@@ -1,23 +1,22 @@
 // Rules closed over: passes over the rules at some places, the last of which adds nothing.
 ghost use mathlib.Core.Path.{_≡_};
-ghost use mathlib.Core.Bool.{_&&_};
-ghost use mathlib.Core.List.{[], _∷_};
+ghost use mathlib.Core.Bool.{_&&_, cond};
 ghost use Prim.Native.Nat.{_-_, _≤_};
-ghost use Rattle.atoms.specs.Sets.{disjoint, subset};
+ghost use Rattle.atoms.specs.Sets.{disjoint, subset, union};
 ghost use Rattle.rules.specs.LevelByLevel.{passOver, settle};
-ghost use Rattle.evaluation.specs.Arrays.{rulesIn};
+ghost use Rattle.evaluation.specs.Arrays.{Heads, rulesIn};
 use atoms::AtomSet;
 
 // What the rules at places `from` to `to` make of a set. "Not" is read of the set as it was before them.
 pub fn close<'a>(
-    heads: &'a [u8; 128],
+    heads: &'a [u64; 128],
     positive: &'a [u64; 128],
     negated: &'a [u64; 128],
     from: usize,
     to: usize,
     set: AtomSet,
 ) -> AtomSet
-    requires { ⌜ (from ≤ to) × (to ≤ 128) ⌝ }
+    requires { ⌜ (from ≤ to) × ((to ≤ 128) × Heads (now heads)) ⌝ }
     ensures { λ r. ⌜ r .bits ≡ settle (rulesIn (now (heads .entry)) (now (positive .entry)) (now (negated .entry)) from (to - from)) (set .bits) ⌝ }
 {
     let mut reached = set;
@@ -32,7 +31,7 @@ pub fn close<'a>(
 
 // One pass over the rules at places `from` to `to`. "Not" is read of `below`.
 fn pass<'a>(
-    heads: &'a [u8; 128],
+    heads: &'a [u64; 128],
     positive: &'a [u64; 128],
     negated: &'a [u64; 128],
     from: usize,
@@ -40,7 +39,7 @@ fn pass<'a>(
     below: AtomSet,
     set: AtomSet,
 ) -> AtomSet
-    requires { ⌜ (from ≤ to) × (to ≤ 128) ⌝ }
+    requires { ⌜ (from ≤ to) × ((to ≤ 128) × Heads (now heads)) ⌝ }
     ensures { λ r.
         ⌜ r .bits ≡ passOver (below .bits) (rulesIn (now (heads .entry)) (now (positive .entry)) (now (negated .entry)) from (to - from)) (set .bits) ⌝ }
 {
@@ -51,7 +50,7 @@ fn pass<'a>(
         let all = positive[k];
         let none = negated[k];
         reached = fire(
-            head,
+            AtomSet { bits: head },
             AtomSet { bits: all },
             AtomSet { bits: none },
             below,
@@ -63,20 +62,21 @@ fn pass<'a>(
 }
 
 // One rule: its head is added where its body holds.
-fn fire(head: u8, positive: AtomSet, negated: AtomSet, below: AtomSet, set: AtomSet) -> AtomSet
+fn fire(head: AtomSet, positive: AtomSet, negated: AtomSet, below: AtomSet, set: AtomSet) -> AtomSet
     ensures { λ r.
-        ⌜ r .bits ≡ passOver (below .bits) ((record { head = head; positive = positive .bits; negated = negated .bits }) ∷ []) (set .bits) ⌝ }
+        ⌜ r .bits ≡ cond (disjoint (negated .bits) (below .bits) && subset (positive .bits) (set .bits)) (union (set .bits) (head .bits)) (set .bits) ⌝ }
 {
     if body_holds(positive, negated, below, set) {
-        set.union(AtomSet::one(head))
+        set.union(head)
     } else {
         set
     }
 }
 
-// All of the positive part in the set, and none of the negated part in `below`.
+// All of the positive part in the set, and none of the negated part in `below`: one test of what is amiss.
 fn body_holds(positive: AtomSet, negated: AtomSet, below: AtomSet, set: AtomSet) -> bool
     ensures { λ r. ⌜ r ≡ (disjoint (negated .bits) (below .bits) && subset (positive .bits) (set .bits)) ⌝ }
 {
-    negated.is_disjoint(below) && positive.is_subset(set)
+    let amiss = negated.intersection(below).union(positive.difference(set));
+    amiss.bits == 0
 }

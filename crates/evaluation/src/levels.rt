@@ -1,6 +1,6 @@
 // The model from rules laid out by level.
 ghost use mathlib.Core.Path.{_≡_};
-ghost use Rattle.evaluation.specs.Arrays.{Ordered, evaluated};
+ghost use Rattle.evaluation.specs.Arrays.{Placed, evaluated};
 ghost use Rattle.evaluation.specs.Unlocking.{grants};
 use crate::closure::close;
 use atoms::AtomSet;
@@ -8,13 +8,13 @@ use atoms::VIOLATION;
 
 // Level by level: each is finished before the next one begins.
 pub fn evaluate<'a>(
-    heads: &'a [u8; 128],
+    heads: &'a [u64; 128],
     positive: &'a [u64; 128],
     negated: &'a [u64; 128],
     starts: &'a [usize; 10],
     credentials: AtomSet,
 ) -> AtomSet
-    requires { ⌜ Ordered (now starts) ⌝ }
+    requires { ⌜ Placed (now heads) (now starts) ⌝ }
     ensures { λ r.
         ⌜ r .bits ≡ evaluated (now (heads .entry)) (now (positive .entry)) (now (negated .entry)) (now (starts .entry)) (credentials .bits) ⌝ }
 {
@@ -31,14 +31,14 @@ pub fn evaluate<'a>(
 
 // The request is in the model and atom 63 is not.
 pub fn unlocks<'a>(
-    heads: &'a [u8; 128],
+    heads: &'a [u64; 128],
     positive: &'a [u64; 128],
     negated: &'a [u64; 128],
     starts: &'a [usize; 10],
     request: u8,
     credentials: AtomSet,
 ) -> bool
-    requires { ⌜ Ordered (now starts) ⌝ }
+    requires { ⌜ Placed (now heads) (now starts) ⌝ }
     ensures { λ r.
         ⌜ r ≡ grants request (evaluated (now (heads .entry)) (now (positive .entry)) (now (negated .entry)) (now (starts .entry)) (credentials .bits)) ⌝ }
 {

@@ -2,27 +2,28 @@
 ghost use mathlib.Core.Path.{_≡_};
 ghost use mathlib.Core.Bool.{cond};
 ghost use Prim.Native.Nat.{_+_, _<_, _≤_};
-ghost use lib.ListN.{length};
 ghost use Rattle.records.specs.Records.{rulesOf};
-ghost use Rattle.evaluation.specs.Arrays.{rulesIn};
+ghost use Rattle.policy.specs.WrittenForm.{WellFormed};
+ghost use Rattle.evaluation.specs.Arrays.{Heads, rulesIn};
+use atoms::AtomSet;
 use records::record_at;
 
-// The first `count` places hold the rules, in the order of their records.
+// The first `count` places hold the rules, in the order of their records. A head is the set of that one atom; every place holds one.
 pub struct Listed {
-    pub heads: [u8; 128],
+    pub heads: [u64; 128],
     pub positive: [u64; 128],
     pub negated: [u64; 128],
     pub count: usize,
 }
 
-// The rules of one kind of a policy that is not too long.
+// The rules of one kind of an accepted policy.
 pub fn rules_of(policy: &[u8], kind: u8) -> Listed
-    requires { ⌜ length (now policy) ≤ 2304 ⌝ }
-    ensures { λ r. ⌜ (rulesIn (r .heads) (r .positive) (r .negated) 0 (r .count) ≡ rulesOf kind (now (policy .entry))) × (r .count ≤ 128) ⌝ }
+    requires { ⌜ WellFormed (now policy) ⌝ }
+    ensures { λ r. ⌜ (rulesIn (r .heads) (r .positive) (r .negated) 0 (r .count) ≡ rulesOf kind (now (policy .entry))) × ((r .count ≤ 128) × Heads (r .heads)) ⌝ }
 {
     let records = policy.len() / 18;
     let mut listed = Listed {
-        heads: [0u8; 128],
+        heads: [1u64; 128],
         positive: [0u64; 128],
         negated: [0u64; 128],
         count: 0,
@@ -32,7 +33,7 @@ pub fn rules_of(policy: &[u8], kind: u8) -> Listed
         let parsed = record_at(policy, k);
         // Each record is put at the next place, and counts there if it is of the kind.
         let place = listed.count;
-        listed.heads[place] = parsed.head;
+        listed.heads[place] = AtomSet::one(parsed.head).bits;
         listed.positive[place] = parsed.positive.bits;
         listed.negated[place] = parsed.negated.bits;
         listed.count = after(place, parsed.kind == kind);

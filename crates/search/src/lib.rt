@@ -2,7 +2,7 @@
 ghost use mathlib.Core.Path.{_≡_};
 ghost use mathlib.Core.Bool.{false};
 ghost use Rattle.atoms.specs.Sets.{size};
-ghost use Rattle.evaluation.specs.Arrays.{Ordered};
+ghost use Rattle.evaluation.specs.Arrays.{Placed};
 ghost use Rattle.search.specs.Preference.{preferred};
 ghost use Rattle.search.specs.Question.{candidates, keys, noQuestion};
 ghost use Rattle.search.specs.Search.{FirstOfSize, LowestAt, LowestMembers, opensIn};
@@ -22,7 +22,7 @@ pub enum Found {
 
 // Fewest first. The rules are in arrays, laid out by level; the shown set alone does not unlock the request.
 pub fn preferred<'a>(
-    heads: &'a [u8; 128],
+    heads: &'a [u64; 128],
     positive: &'a [u64; 128],
     negated: &'a [u64; 128],
     starts: &'a [usize; 10],
@@ -30,7 +30,7 @@ pub fn preferred<'a>(
     shown: u16,
     within: u16,
 ) -> Found
-    requires { ⌜ Ordered (now starts) × (opensIn (now heads) (now positive) (now negated) (now starts) request shown noQuestion ≡ false) ⌝ }
+    requires { ⌜ Placed (now heads) (now starts) × (opensIn (now heads) (now positive) (now negated) (now starts) request shown noQuestion ≡ false) ⌝ }
     ensures { λ r.
         ⌜ foundOf r ≡ preferred keys (opensIn (now (heads .entry)) (now (positive .entry)) (now (negated .entry)) (now (starts .entry)) request shown)
             (candidates within) ⌝ }
@@ -61,7 +61,7 @@ pub fn preferred<'a>(
 
 // Smallest number first, among the subsets with as many members as the first one.
 fn first_from<'a>(
-    heads: &'a [u8; 128],
+    heads: &'a [u64; 128],
     positive: &'a [u64; 128],
     negated: &'a [u64; 128],
     starts: &'a [usize; 10],
@@ -71,7 +71,7 @@ fn first_from<'a>(
     lowest: &'a [u16; 17],
     first: u16,
 ) -> Found
-    requires { ⌜ (Ordered (now starts) × LowestAt within (now lowest)) × ((first ≡ 0 → ⊥) × LowestMembers within (size first) first) ⌝ }
+    requires { ⌜ (Placed (now heads) (now starts) × LowestAt within (now lowest)) × ((first ≡ 0 → ⊥) × LowestMembers within (size first) first) ⌝ }
     ensures { λ r.
         ⌜ FirstOfSize (opensIn (now (heads .entry)) (now (positive .entry)) (now (negated .entry)) (now (starts .entry)) request shown) within (size first)
             (foundOf r) ⌝ }

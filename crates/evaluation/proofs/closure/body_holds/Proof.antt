@@ -1,19 +1,27 @@
--- `evaluation::closure::body_holds` meets its contract: by the two tests. Assumes nothing.
+-- `evaluation::closure::body_holds` meets its contract: nothing is amiss where both tests pass. Assumes nothing.
+use mathlib.Core.Path.{_∙_, ap, ap₂}
+use Prim.Native.Nat.{ℕ}
+use lib.Dec.{eqb}
 use borrow.Author.Needs.{needs}
+use Rattle.atoms.specs.Sets.{union}
+use Rattle.evaluation.proofs.HeadLaws.{nothing-amiss}
 use Rattle.evaluation.proofs.closure.body_holds.Statement.{statement}
 use Rattle.evaluation.proofs.closure.body_holds.Tie as tie
 
-is-disjoint-requires : tie.Need-is-disjoint-requires
-is-disjoint-requires c κs = search needs
+intersection-requires : tie.Need-intersection-requires
+intersection-requires c κs = search needs
 
-is-subset-requires : tie.Need-is-subset-requires
-is-subset-requires c κs = search needs
+difference-requires : tie.Need-difference-requires
+difference-requires c κs = search needs
+
+union-requires : tie.Need-union-requires
+union-requires c κs = search needs
 
 returns : tie.Need-returns
-returns c = simp (← c .before .before .is-disjoint .ensures, ← c .is-subset .ensures, c .before .if1 .taken)
-
-returns-2 : tie.Need-returns-2
-returns-2 c = simp (← c .before .is-disjoint .ensures, c .if1 .left)
+returns c =
+    let a = c .before .before .before .before .args in
+    ap (λ (x : ℕ). eqb x 0) (c .before .union .ensures ∙ ap₂ union (c .before .before .before .intersection .ensures) (c .before .before .difference .ensures))
+    ∙ nothing-amiss (a .negated .bits) (a .below .bits) (a .positive .bits) (a .set .bits)
 
 pub body-holds-spec : {M : Type 1} → statement M
-body-holds-spec = tie.close (tie.spec is-disjoint-requires is-subset-requires returns returns-2)
+body-holds-spec = tie.close (tie.spec intersection-requires difference-requires union-requires returns)

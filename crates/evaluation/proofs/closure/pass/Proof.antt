@@ -23,6 +23,9 @@ abbrev μ-loop : tie.MeasureT-loop
 loop-holds : tie.Need-loop-holds Inv-loop μ-loop
 loop-holds c = (omega arith, (omega arith, refl))
 
+mul-head : tie.Need-mul-head Inv-loop μ-loop
+mul-head c = search needs
+
 element-copy-out-head : tie.Need-element-copy-out-head Inv-loop μ-loop
 element-copy-out-head c = search needs
 
@@ -50,12 +53,13 @@ loop-less c = omega arith
 loop-again : tie.Need-loop-again Inv-loop μ-loop
 loop-again c =
     let a = c .before .before .before .before .before .before .args in
-    let l = c .before .before .before .before .before .loop in (
+    let l = c .before .before .before .before .before .loop in
+    let head = c .before .before .before .before .before .before .pre .1 .1 (l .k) (omega arith) in (
       omega arith,
       (
         omega arith,
         pass-next-at (now (a .heads)) (now (a .positive)) (now (a .negated)) (l .k) (a .to) (c .before .before .before .before .loop-test .taken)
-            (a .below .bits) (l .reached .bits) (c .fire .result .bits) _ (c .fire .ensures) (l .inv .1 .1),
+            head (a .below .bits) (l .reached .bits) (c .fire .result .bits) _ (c .fire .ensures) (l .inv .1 .1),
       ),
     )
 
@@ -73,6 +77,7 @@ pass-spec =
     Inv-loop
     μ-loop
     loop-holds
+    mul-head
     element-copy-out-head
     mul-all
     element-copy-out-all

@@ -1,7 +1,8 @@
 -- `evaluation::levels::evaluate` meets its contract. The loop's invariant: what is left of the levels makes of the set what all of them make of the
 -- credentials. Assumes nothing.
 use mathlib.Core.Path.{_≡_, refl}
-use Prim.Native.Nat.{_-_, _≤_}
+use Prim.Native.Nat.{_+_, _-_, _≤_}
+use lib.ListN.{getD}
 use denote.Ref.{now}
 use borrow.Author.Needs.{needs}
 use native.Mathlib.Numerals.{add-one}
@@ -42,7 +43,10 @@ element-copy-out-to c = search needs
 close-requires : tie.Need-close-requires Inv-loop μ-loop
 close-requires c κs =
     let s = c .before .before .before .before in
-    rw (add-one (c .before .before .before .loop .level)) (s .pre (c .before .before .before .loop .level) (omega arith))
+    let l = c .before .before .before .loop .level in
+    let starts = now (s .args .starts) in
+    let places : (getD starts l 0 ≤ getD starts (l + 1) 0) × (getD starts (l + 1) 0 ≤ 128) = rw (add-one l) (s .pre .ordered l (omega arith)) in
+    (places .0, (places .1, s .pre .singles))
 
 add-level : tie.Need-add-level Inv-loop μ-loop
 add-level c = search needs

@@ -50,7 +50,7 @@ preferred-requires c κs =
     let rules = c .before .before .before .before .before .before .before .before .before .before .before .before .before .before .access-rules in
     let u = c .before .before .before .before .before .before .before .unlocks in
     (
-      rules .ensures .ordered,
+      rules .ensures .placed,
       locked-alone bytes (slice-bytes bytes (known .shared-slice-known .given)) (known .before .pre .0) (rules .result .heads) (rules .result .positive)
       (rules .result .negated) (rules .result .starts) (rules .ensures) (a .request) (a .shown) (a .declined) _
       (c .before .before .before .before .before .before .before .before .before .before .before .before .before .credentials .ensures) (u .result) (u .ensures)
