@@ -1,5 +1,5 @@
 -- What the answer to a whole list means is one-to-one: each map has a way back. Assumes nothing.
-use mathlib.Core.Path.{_≡_, ap, refl}
+use mathlib.Core.Path.{_≡_, ap}
 use Rattle.atoms.proofs.MapLaws.{one-to-one}
 use Rattle.session.proofs.TypeLaws.{outcome-back, outcomeBack, refusal-back, refusalBack, session-back, sessionBack}
 use Rattle.demands.specs.Replay as R

@@ -1,7 +1,7 @@
 -- The next subset with as many members: the lowest run of members is carried, and the lowest members are put back. Assumes nothing.
 use mathlib.Core.Path.{_∙_, _≡_, ap, ap₂, refl, subst, sym}
 use mathlib.Core.Logic.{_≢_, _⊎_, inl, inr}
-use Prim.Native.Nat.{_%_, _*_, _+_, _-_, _/_, _<_, _^_, _≤_, suc, zero, ℕ}
+use Prim.Native.Nat.{_%_, _*_, _+_, _-_, _/_, _<_, _^_, _≤_, suc, ℕ}
 use lib.Bits.{and-mask, or-shifted, or-shifted-r}
 use lib.Count.{onesIn}
 use lib.Pow.{high, low, pow-mono, pow-pos, shl-shr, shr-le, shr-shr, split}
@@ -11,7 +11,7 @@ use native.Mathlib.Numerals.{one-add}
 use native.Mathlib.Omega.{arith}
 use Rattle.atoms.specs.Sets.{Member, Subset, bit, intersection, size, union}
 use Rattle.atoms.proofs.SetLaws.{bit-one, intersection-iff, member-lowest, none-in-empty, power-member, subset-antisym, subset-le, union-cases, union-least, union-left, union-right}
-use Rattle.atoms.proofs.SizeLaws.{low-lt, size-le, size-more, size-same, whole-subset}
+use Rattle.atoms.proofs.SizeLaws.{size-le, size-more, size-same, whole-subset}
 use Rattle.search.specs.Search.{LowestMembers, NextOfSize, NextSubset}
 use Rattle.search.proofs.SplitLaws.{LowestAtom, lower-lt, lower-subset, lower-within, lowest-atom, member-lower, member-upper, size-split, upper-subset}
 
@@ -270,7 +270,7 @@ module _ (D s j : ℕ) (l : D < 2 ^ 16) (inside : Subset s D) (here : Member j s
       let s-size : size s ≡ size q + size (s % 2 ^ j) = size-split s j (inside-lt s inside) in
       let zero-size : size (s % 2 ^ j) ≡ size 0 = ap size none-below in
       let some : 1 ≤ size (x % 2 ^ j) =
-          size-some (x % 2 ^ j) (omega (arith, subset-le (x % 2 ^ j) x (lower-within x j), inside-lt x g)) (λ z. absurd (omega arith)) in
+      size-some (x % 2 ^ j) (omega (arith, subset-le (x % 2 ^ j) x (lower-within x j), inside-lt x g)) (λ z. absurd (omega arith)) in
       omega (arith, x-size, s-size, zero-size, size-empty, some)
 
   -- where f is all of D, no further one has as many
@@ -367,11 +367,11 @@ module _ (D s j : ℕ) (l : D < 2 ^ 16) (inside : Subset s D) (here : Member j s
               let up : y / 2 ^ k .place ≡ suc c = upper-is (suc c) (k .place) y (omega (arith, k .is)) (omega (arith, t-sum, x-below)) in
               let y-is : q + y % 2 ^ k .place ≡ y = ap (λ (z : ℕ). z * 2 ^ k .place + y % 2 ^ k .place) (sym up) ∙ split y (k .place) in
               let y-size : size y ≡ size (suc c) + size (y % 2 ^ k .place) =
-                  size-split y (k .place) (inside-lt y g) ∙ ap (λ (z : ℕ). size z + size (y % 2 ^ k .place)) up in
+              size-split y (k .place) (inside-lt y g) ∙ ap (λ (z : ℕ). size z + size (y % 2 ^ k .place)) up in
               let odd : size (suc c) ≡ suc (size c) = size-odd c (lt-of-le-of-lt (le-mul-pow (suc c) (k .place)) c-lt) (k .even) in
               let lower : x ≤ y % 2 ^ k .place =
-                  lowest-least D (size s - size r) x l h (y % 2 ^ k .place) (λ i m. g i (lower-within y (k .place) i m))
-                  (omega (arith, y-size, odd, r-size, e)) in
+              lowest-least D (size s - size r) x l h (y % 2 ^ k .place) (λ i m. g i (lower-within y (k .place) i m))
+              (omega (arith, y-size, odd, r-size, e)) in
               omega (arith, t-sum, y-is, lower)
 
       pub next-of-size : NextOfSize D s (union r x)

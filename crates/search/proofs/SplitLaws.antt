@@ -22,8 +22,7 @@ member-upper x p k = ap (λ (y : ℕ). y % 2) (shr-shr x p k)
 pub member-lower : (x p k : ℕ) → Member k (x % 2 ^ p) ↔ (Member k x × (k < p))
 member-lower x p k =
     let i = intersection-iff x (2 ^ p - 1) k in
-    let e = and-mask x p in
-    (
+    let e = and-mask x p in (
       λ m. let h = i .0 (subst (λ (y : ℕ). Member k y) (sym e) m) in (h .0, member-lowest p k .0 (h .1)),
       λ (m, l). subst (λ (y : ℕ). Member k y) e (i .1 (m, member-lowest p k .1 l)),
     )
@@ -91,9 +90,9 @@ lowest-atom = bin-ind (λ (s : ℕ). s ≢ 0 → LowestAtom s) (λ n. absurd (n 
               here = bit-next s j ∙ h .here;
               none-below = even-below s j e (h .none-below);
               rest = and-step s (s - 1)
-              ∙ ap₂ (λ (x y : ℕ). bitAnd (s / 2) x * 2 + min (s % 2) y) half odd
-              ∙ ap (λ (x : ℕ). x * 2 + min (s % 2) 1) (h .rest)
-              ∙ omega (arith, pow-suc 2 j, h .small);
+                  ∙ ap₂ (λ (x y : ℕ). bitAnd (s / 2) x * 2 + min (s % 2) y) half odd
+                  ∙ ap (λ (x : ℕ). x * 2 + min (s % 2) 1) (h .rest)
+                  ∙ omega (arith, pow-suc 2 j, h .small);
               small = omega (arith, pow-suc 2 j, h .small);
             }
         go (suc x) e =
@@ -104,8 +103,8 @@ lowest-atom = bin-ind (λ (s : ℕ). s ≢ 0 → LowestAtom s) (λ n. absurd (n 
               here = bit-first s ∙ omega arith;
               none-below = omega arith;
               rest = and-step s (s - 1)
-              ∙ ap₂ (λ (x y : ℕ). bitAnd (s / 2) x * 2 + min (s % 2) y) half odd
-              ∙ ap (λ (x : ℕ). x * 2 + min (s % 2) 0) (and-self (s / 2))
-              ∙ omega arith;
+                  ∙ ap₂ (λ (x y : ℕ). bitAnd (s / 2) x * 2 + min (s % 2) y) half odd
+                  ∙ ap (λ (x : ℕ). x * 2 + min (s % 2) 0) (and-self (s / 2))
+                  ∙ omega arith;
               small = omega arith;
             }

@@ -33,7 +33,7 @@ pub fn preferred<'a>(
     requires { ⌜ Placed (now heads) (now starts) × (opensIn (now heads) (now positive) (now negated) (now starts) request shown noQuestion ≡ false) ⌝ }
     ensures { λ r.
         ⌜ foundOf r ≡ preferred keys (opensIn (now (heads .entry)) (now (positive .entry)) (now (negated .entry)) (now (starts .entry)) request shown)
-            (candidates within) ⌝ }
+        (candidates within) ⌝ }
 {
     let lowest = lowest_members(within);
     let most = AtomSet::credentials(within).count();
@@ -74,19 +74,12 @@ fn first_from<'a>(
     requires { ⌜ (Placed (now heads) (now starts) × LowestAt within (now lowest)) × ((first ≡ 0 → ⊥) × LowestMembers within (size first) first) ⌝ }
     ensures { λ r.
         ⌜ FirstOfSize (opensIn (now (heads .entry)) (now (positive .entry)) (now (negated .entry)) (now (starts .entry)) request shown) within (size first)
-            (foundOf r) ⌝ }
+        (foundOf r) ⌝ }
 {
     let mut candidate = first;
     loop {
         let credentials = AtomSet::credentials(shown | candidate);
-        if unlocks(
-            heads,
-            positive,
-            negated,
-            starts,
-            request,
-            credentials,
-        ) {
+        if unlocks(heads, positive, negated, starts, request, credentials) {
             return Found::Set(candidate);
         }
         let next = next_of_size(candidate, within, lowest);

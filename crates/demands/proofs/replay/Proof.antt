@@ -46,12 +46,11 @@ loop-less c = omega arith
 loop-again : tie.Need-loop-again Inv-loop μ-loop
 loop-again c =
     let a = c .before .before .before .before .before .before .before .args in
-    let l = c .before .before .before .loop in
-    (
+    let l = c .before .before .before .loop in (
       omega (arith, c .before .before .loop-test .taken),
       rw add-one
-      (reached-next (now (a .policy)) (a .request) (now (a .shown)) (l .k) (replayedOf (l .state)) (replayedOf (c .one-more .result))
-      (c .before .before .loop-test .taken) (l .inv .1) (c .one-more .ensures)),
+          (reached-next (now (a .policy)) (a .request) (now (a .shown)) (l .k) (replayedOf (l .state)) (replayedOf (c .one-more .result))
+          (c .before .before .loop-test .taken) (l .inv .1) (c .one-more .ensures)),
     )
 
 returns : tie.Need-returns Inv-loop μ-loop

@@ -29,11 +29,10 @@ loop-holds : tie.Need-loop-holds Inv-loop μ-loop
 loop-holds c =
     let a = c .args in
     let fits = c .fits .within .fits in
-    let h = c .pre .1 in
-    (
+    let h = c .pre .1 in (
       (h .0, (lowest-inside (a .within) (size (a .first)) (a .first) fits (h .1), refl)),
       none-first (opensIn (now (a .heads)) (now (a .positive)) (now (a .negated)) (now (a .starts)) (a .request) (a .shown))
-      (a .within) (size (a .first)) fits (a .first) (h .1),
+          (a .within) (size (a .first)) fits (a .first) (h .1),
     )
 
 credentials-requires : tie.Need-credentials-requires Inv-loop μ-loop
@@ -75,12 +74,11 @@ loop-again : tie.Need-loop-again Inv-loop μ-loop
 loop-again c =
     let a = c .before .before .before .before .before .before .args in
     let l = c .before .before .before .before .before .loop in
-    let next = c .before .next-of-size .ensures .next (c .if2 .left) in
-    (
+    let next = c .before .next-of-size .ensures .next (c .if2 .left) in (
       (c .if2 .left, (next .inside, next .sized ∙ l .inv .0 .1 .1)),
       none-next (opensIn (now (a .heads)) (now (a .positive)) (now (a .negated)) (now (a .starts)) (a .request) (a .shown))
-      (a .within) (size (a .first)) (c .before .before .before .before .before .before .fits .within .fits) (l .candidate) (c .before .next-of-size .result) (l .inv .0 .1 .1) (l .inv .1)
-      (c .before .before .before .unlocks .result) (unlocked (c .before .before .before)) (c .before .before .if1 .left) next,
+          (a .within) (size (a .first)) (c .before .before .before .before .before .before .fits .within .fits) (l .candidate) (c .before .next-of-size .result) (l .inv .0 .1 .1) (l .inv .1)
+          (c .before .before .before .unlocks .result) (unlocked (c .before .before .before)) (c .before .before .if1 .left) next,
     )
 
 pub first-from-spec : {M : Type 1} → statement M

@@ -39,11 +39,10 @@ count-requires c κs = search needs
 loop-holds : tie.Need-loop-holds Inv-loop μ-loop
 loop-holds c =
     let start = c .before .before .before in
-    let a = start .args in
-    (
+    let a = start .args in (
       (c .count .ensures ∙ ap size (c .before .credentials .ensures), omega arith),
       smaller-first (opensIn (now (a .heads)) (now (a .positive)) (now (a .negated)) (now (a .starts)) (a .request) (a .shown))
-      (a .within) (start .fits .within .fits) (start .pre .1),
+          (a .within) (start .fits .within .fits) (start .pre .1),
     )
 
 cast-first : tie.Need-cast-first Inv-loop μ-loop
@@ -63,8 +62,7 @@ first-from-requires : tie.Need-first-from-requires Inv-loop μ-loop
 first-from-requires c κs =
     let start = c .before .before .before .before .before .before in
     let table = c .before .before .before .before .before .lowest-members in
-    let l = c .before .before .loop in
-    (
+    let l = c .before .before .loop in (
       (start .pre .0, table .ensures),
       table-first (start .args .within) (table .result) (table .ensures) (l .size) (sized (c .before)) (l .inv .0 .1),
     )
@@ -107,13 +105,12 @@ loop-again c =
     let start = c .before .before .before .before .before .before .before .before .before in
     let a = start .args in
     let l = c .before .before .before .before .before .loop in
-    let first = c .before .before .first-from in
-    (
+    let first = c .before .before .first-from in (
       (l .inv .0 .0, omega arith),
       rw add-one
-      (smaller-next (opensIn (now (a .heads)) (now (a .positive)) (now (a .negated)) (now (a .starts)) (a .request) (a .shown))
-      (a .within) (start .fits .within .fits) (l .size) (l .inv .1) (foundOf (first .result)) (of-size (c .before .before))
-      (ap foundOf (c .enum-told .given .1))),
+          (smaller-next (opensIn (now (a .heads)) (now (a .positive)) (now (a .negated)) (now (a .starts)) (a .request) (a .shown))
+          (a .within) (start .fits .within .fits) (l .size) (l .inv .1) (foundOf (first .result)) (of-size (c .before .before))
+          (ap foundOf (c .enum-told .given .1))),
     )
 
 returns-2 : tie.Need-returns-2 Inv-loop μ-loop

@@ -48,13 +48,12 @@ preferred-requires c κs =
     let a = known .before .args in
     let bytes = now (a .policy) in
     let rules = c .before .before .before .before .before .before .before .before .before .before .before .before .before .before .access-rules in
-    let u = c .before .before .before .before .before .before .before .unlocks in
-    (
+    let u = c .before .before .before .before .before .before .before .unlocks in (
       rules .ensures .placed,
       locked-alone bytes (slice-bytes bytes (known .shared-slice-known .given)) (known .before .pre .0) (rules .result .heads) (rules .result .positive)
-      (rules .result .negated) (rules .result .starts) (rules .ensures) (a .request) (a .shown) (a .declined) _
-      (c .before .before .before .before .before .before .before .before .before .before .before .before .before .credentials .ensures) (u .result) (u .ensures)
-      (c .before .before .before .before .before .before .if1 .left),
+          (rules .result .negated) (rules .result .starts) (rules .ensures) (a .request) (a .shown) (a .declined) _
+          (c .before .before .before .before .before .before .before .before .before .before .before .before .before .credentials .ensures) (u .result) (u .ensures)
+          (c .before .before .before .before .before .before .if1 .left),
     )
 
 concluded-requires : tie.Need-concluded-requires

@@ -1,5 +1,4 @@
 -- `session::sound::question` meets its contract: one case for each phase. Assumes nothing.
-use mathlib.Core.Path.{ap, sym}
 use borrow.Author.Needs.{needs}
 use Rattle.session.proofs.sound.question.Statement.{statement}
 use Rattle.session.proofs.sound.question.Tie as tie
