@@ -4,7 +4,7 @@ ghost use Rattle.io.specs.Counts.{Counts};
 use libc::STDIN_FILENO;
 
 // One byte more than any policy has.
-pub(crate) const MOST_BYTES: usize = 2305;
+pub(crate) const POLICY_BYTES: usize = 2305;
 
 pub(crate) enum Input {
     Record(u16),
@@ -12,7 +12,7 @@ pub(crate) enum Input {
 }
 
 // Reads policy.bin and says how many bytes there are; a file that cannot be read counts as empty.
-pub(crate) fn policy(space: &mut [u8; MOST_BYTES]) -> usize
+pub(crate) fn policy(space: &mut [u8; POLICY_BYTES]) -> usize
     ensures { λ r. ⌜ Counts r (now (space .exit)) ⌝ }
 {
     let file = os::open_read(b"policy.bin");
@@ -25,11 +25,11 @@ pub(crate) fn policy(space: &mut [u8; MOST_BYTES]) -> usize
 }
 
 // Reads until there is no room left or the file ends; 0 if a read fails.
-fn fill(file: i32, space: &mut [u8; MOST_BYTES]) -> usize
+fn fill(file: i32, space: &mut [u8; POLICY_BYTES]) -> usize
     ensures { λ r. ⌜ Counts r (now (space .exit)) ⌝ }
 {
     let bytes = io::read_full(file, space);
-    if bytes < MOST_BYTES && !at_end(file) {
+    if bytes < POLICY_BYTES && !at_end(file) {
         return 0;
     }
     bytes

@@ -2,17 +2,17 @@
 use libc::STDOUT_FILENO;
 
 // More than the longest line: "round 255 got ffff ask ffff".
-const MOST_BYTES: usize = 32;
+const LINE_BYTES: usize = 32;
 
 pub(crate) struct Line {
-    bytes: [u8; MOST_BYTES],
+    bytes: [u8; LINE_BYTES],
     length: usize,
 }
 
 impl Line {
     pub(crate) fn empty() -> Line {
         Line {
-            bytes: [0u8; MOST_BYTES],
+            bytes: [0u8; LINE_BYTES],
             length: 0,
         }
     }
@@ -31,7 +31,7 @@ impl Line {
     fn byte(self, byte: u8) -> Line {
         let mut bytes = self.bytes;
         let length = self.length;
-        if length >= MOST_BYTES {
+        if length >= LINE_BYTES {
             return self;
         }
         bytes[length] = byte;

@@ -14,7 +14,7 @@ enum Next {
 }
 
 fn main() {
-    let mut space = [0u8; input::MOST_BYTES];
+    let mut space = [0u8; input::POLICY_BYTES];
     let bytes = input::policy(&mut space);
     run(&space[..bytes]);
 }

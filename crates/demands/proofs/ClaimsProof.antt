@@ -14,11 +14,11 @@ use Rattle.demands.specs.Claims.{Claims}
 use Rattle.demands.specs.Demand3.{Demand3, Demand3Holds}
 use Rattle.demands.specs.Lists.{Linked}
 use Rattle.demands.specs.Promises.{AlwaysSound}
-use Rattle.demands.proofs.CallsProof.{program-meets}
+use Rattle.demands.proofs.CallsProof.{calls-mean, program-meets}
 use Rattle.demands.proofs.Demand3Proof.{demand3}
 use Rattle.demands.proofs.ListLaws.{lists-mean}
 use Rattle.demands.proofs.MarkedCases.{marked}
-use Rattle.demands.proofs.PromiseProof.{always-sound, demand1, opened-by, opening-promise, round-promise}
+use Rattle.demands.proofs.PromiseProof.{always-sound, demand1, opened-by, opening-promise, round-promise, visits-mean}
 use Rattle.demands.proofs.TypeLaws.{replayed-one}
 
 -- the session is the one that opening gave
@@ -39,6 +39,7 @@ claims = record {
     disclosure = refl;
     little-endian = refl;
     refused-6-at-0 = (refl, refl);
+    refused-n-at-k = λ n k. (refl, refl);
   };
   sets = meaning;
   models = rules.theorems;
@@ -49,14 +50,16 @@ claims = record {
   searches = search.theorems;
   sessions = session.theorems;
   opens = λ r l. opening-promise r;
-  demand1 = λ bytes b s h m l. demand1 bytes b s m;
-  demand2 = λ bytes b s h m l. round-promise bytes b s m;
+  demand1 = λ bytes b s m l. demand1 bytes b s m;
+  demand2 = λ bytes b s m l. round-promise bytes b s m;
   demand3 = demand3-holds;
   program = program-meets demand3-holds;
-  replayed-one = replayed-one;
+  calls = calls-mean;
   lists = lists-mean;
+  replayed-one = replayed-one;
   always-sound = λ r s e vs f.
       let (service, is) = opened-by r s e in
       subst (λ (x : Session). AlwaysSound x vs) is (always-sound r service vs f);
+  visits = visits-mean;
   marked = marked;
 }

@@ -17,7 +17,7 @@ use Rattle.model.proofs.DisclosureLaws.{Low, disclosable-mono}
 use Rattle.search.specs.Question.{Question}
 use Rattle.session.specs.Endings.{Ending, Policy, ask, deny, grant}
 use Rattle.session.proofs.AnswerLaws.{FirstWay, Says, Way}
-use Rattle.demands.specs.Lists.{Round, declinedBy, lastQuestion, questionOf, reply, shownBy}
+use Rattle.demands.specs.Lists.{Round, declinedBy, lastQuestion, questionIn, reply, shownBy}
 use Rattle.demands.proofs.EachLaws.{Past}
 use Rattle.demands.proofs.RoundLaws.{Genuine, asked-before, declined-askable, denied-none, says}
 
@@ -37,7 +37,7 @@ module _ (pol : Policy) (low : Every Low (pol .disclosure)) (r H I S : ℕ) (c :
   reply-held : (past : List Round) → Subset (reply H I past) H
   unfolding reply
   reply-held [] = c .first
-  reply-held (t ∷ past) = λ k m. intersection-iff (questionOf (t .ended) .asks) H k .0 m .1
+  reply-held (t ∷ past) = λ k m. intersection-iff (questionIn (t .ended) .asks) H k .0 m .1
 
   shown-held : (past : List Round) → Past Replies past → Subset (shownBy past) H
   unfolding Past shownBy
@@ -51,7 +51,7 @@ module _ (pol : Policy) (low : Every Low (pol .disclosure)) (r H I S : ℕ) (c :
   unfolding reply lastQuestion
   declined-now [] p k e m i = none-in-empty k (difference-iff empty p k .0 m .0)
   declined-now (u ∷ past) p k e m i =
-      let Q = questionOf (u .ended) .asks in
+      let Q = questionIn (u .ended) .asks in
       let h = difference-iff Q p k .0 m in
       h .1 (subst (λ (x : ℕ). Member k x) (sym e) (intersection-iff Q H k .1 (h .0, i)))
 
@@ -110,7 +110,7 @@ module _ (pol : Policy) (low : Every Low (pol .disclosure)) (r H I S : ℕ) (c :
   locked-most (u ∷ past) t g h e = go (ℕ-discrete (difference Q H) empty) (locked-most past u (g .0) (h .0) (q .0))
     where
       Q : ℕ
-      Q = questionOf (u .ended) .asks
+      Q = questionIn (u .ended) .asks
 
       p : ℕ
       p = t .takes .shows
@@ -121,7 +121,7 @@ module _ (pol : Policy) (low : Every Low (pol .disclosure)) (r H I S : ℕ) (c :
       N : ℕ
       N = declinedBy (u ∷ past)
 
-      q : (unlocks (pol .access) r P ≡ false) × FirstWay pol low r P N (questionOf (u .ended))
+      q : (unlocks (pol .access) r P ≡ false) × FirstWay pol low r P N (questionIn (u .ended))
       q = asked-before pol low r past u t (g .0 .1) (g .1)
 
       go : Dec (difference Q H ≡ empty) → length past ≤ size N → suc (length past) ≤ size (declinedBy (t ∷ u ∷ past))

@@ -7,10 +7,10 @@ use Rattle.atoms.specs.Sets.{Member, difference, empty, union}
 use Rattle.atoms.proofs.SetLaws.{difference-iff, intersection-iff, none-in-empty, union-cases, union-left, union-right}
 use Rattle.session.specs.Endings.{Ending, ask, deny, grant}
 use Rattle.session.proofs.AnswerLaws.{ask≢deny, ask≢grant}
-use Rattle.demands.specs.Lists.{Asks, Final, ListsMean, Over, Round, SomeNext, SomeRound, declinedBy, lastQuestion, questionOf, reply, shownBy}
+use Rattle.demands.specs.Lists.{Asks, Final, ListsMean, Over, Round, SomeNext, SomeRound, declinedBy, lastQuestion, questionIn, reply, shownBy}
 
 -- the asked set, as a set
-pub asks-iff : (e : Ending) (k : ℕ) → Member k (questionOf e .asks) ↔ Asks e k
+pub asks-iff : (e : Ending) (k : ℕ) → Member k (questionIn e .asks) ↔ Asks e k
 asks-iff grant k = (none-in-empty k, λ x. absurd x)
 asks-iff deny k = (none-in-empty k, λ x. absurd x)
 asks-iff (ask q) k = (λ m. m, λ m. m)
@@ -83,7 +83,7 @@ declined-iff (t ∷ u ∷ past) k = (
     p = t .takes .shows
 
     Q : ℕ
-    Q = questionOf (u .ended) .asks
+    Q = questionIn (u .ended) .asks
 
     N : ℕ
     N = declinedBy (u ∷ past)
@@ -103,7 +103,7 @@ lists-mean = record {
   declined = declined-iff;
   first-reply = λ H I. refl;
   later-reply = λ H I t past k.
-      let i = intersection-iff (questionOf (t .ended) .asks) H k in
+      let i = intersection-iff (questionIn (t .ended) .asks) H k in
       let a = asks-iff (t .ended) k in
       (λ m. (a .0 (i .0 m .0), i .0 m .1), λ h. i .1 (a .1 (h .0), h .1));
 }

@@ -81,7 +81,7 @@ witness : Witness
 unfolding _if_not_ disclose_if_ writeRecord bytesOf setOf littleEndian readRecord forAtoms accessLevels firstFailed recordRefusal recordsRefusal
     policyRefusal orElse recordsFrom recordsOf ofKind rulesOf reduct times passBy closureBy consequences model disclosable askable unlocks onesIn size
     subsets lexBefore preferred candidates chosen ending worked sessionRefusal roundRefusal round run acceptedOf Each reply moves turns policyA
-witness = record { licensed = licensed-A; client = (refl, (refl, (refl, tt))); bound = refl }
+witness = record { licensed = licensed-A; client = (refl, (refl, (refl, tt))); askable-ones = refl; bound = refl }
 
 -- ---- all of them
 
@@ -114,5 +114,6 @@ marked = record {
   j-disclosed = refl;
   j-alone = refl;
   j-beside = refl;
+  d-reached = refl;
   witness = witness;
 }

@@ -3,7 +3,7 @@ use mathlib.Core.Path.{_∙_, _≡_, ap, refl, subst, sym}
 use mathlib.Core.Logic.{_≢_, _⊎_, inl, inr}
 use mathlib.Core.List.{List, [], _∷_}
 use mathlib.Core.Option.{Option, none, some}
-use Prim.Native.Nat.{_+_, _≤_, suc, ℕ}
+use Prim.Native.Nat.{_+_, _<_, _^_, _≤_, suc, ℕ}
 use lib.ListN.{length}
 use native.Mathlib.Omega.{arith}
 use Rattle.atoms.specs.LittleEndian.{Bytes}
@@ -15,27 +15,27 @@ use Rattle.policy.specs.WrittenForm.{AllKept, FirstBroken, PolicyRefused, WellF
 use Rattle.policy.proofs.DecideLaws.{DecideAll, first-none, first-some}
 use Rattle.session.specs.Endings.{Ending, policyOf}
 use Rattle.session.specs.Refusals.{Refusal, number, ofPolicy}
-use Rattle.session.specs.Rounds.{Move, Outcome, Turn, Working, decided, declinedAfter, ends, gives, openUnless, opening, phaseAfter, refuse, refuses, requestTest, respond, round, roundRefusal, shownAfter, worked}
+use Rattle.session.specs.Rounds.{Move, Outcome, Turn, Working, decided, declinedAfter, ends, begins, openUnless, opening, phaseAfter, refuse, refuses, requestTest, respond, round, roundRefusal, run, shownAfter, worked}
 use Rattle.session.specs.Sessions.{Finished, Phase, Service, Session, SoundSession, fresh, opened}
 use Rattle.session.proofs.SessionLaws.{ByPolicy, SessionForm, decides-service, not-open-finished, round-none, round-refused, round-some, round-worked}
 use Rattle.session.proofs.SoundLaws.{SoundSixteenBit, opened-sound, round-sound, seventeen}
 use Rattle.demands.specs.Demand1.{Demand1}
-use Rattle.demands.specs.Demand2.{Demand2, DeniedWhen}
+use Rattle.demands.specs.Demand2.{Demand2}
 use Rattle.demands.specs.Lists.{Each, Round, acceptedOf, addRound}
-use Rattle.demands.specs.Promises.{AlwaysSound, Fits, FreshFor, Opening, RoundPromise, Visit, runVisits}
-use Rattle.demands.proofs.AnswerProof.{demand2, denied-when}
+use Rattle.demands.specs.Promises.{AlwaysSound, FreshFor, Opening, RoundPromise, Visit, VisitsMean, runVisits}
+use Rattle.demands.proofs.AnswerProof.{demand2}
 use Rattle.demands.proofs.EachLaws.{each-imp}
 
 -- ---- what is equal and what is not
 
-gives-injective : (s t : Session) → gives s ≡ gives t → s ≡ t
+gives-injective : (s t : Session) → begins s ≡ begins t → s ≡ t
 gives-injective s t e = cc
 
 refuses-injective : (f g : Refusal) → refuses f ≡ refuses g → f ≡ g
 refuses-injective f g e = cc
 
-gives≢refuses : (s : Session) (f : Refusal) → gives s ≢ refuses f
-gives≢refuses s f e = let z : _≡_ {A = ℕ} 0 1 = cc in omega arith
+begins≢refuses : (s : Session) (f : Refusal) → begins s ≢ refuses f
+begins≢refuses s f e = let z : _≡_ {A = ℕ} 0 1 = cc in omega arith
 
 refuse-injective : (f g : Refusal) → refuse f ≡ refuse g → f ≡ g
 refuse-injective f g e = cc
@@ -87,19 +87,19 @@ opening-promise r = go (firstFailed (requestTest r ∷ [])) refl
         record {
           sessions = λ s. (
             λ p. (v, subst (FreshFor r) (gives-injective (opened r) s p) (is-fresh r)),
-            λ h. ap gives (sym (fresh-is r s (h .1))),
+            λ h. ap begins (sym (fresh-is r s (h .1))),
           );
-          refusals = λ f. (λ p. absurd (gives≢refuses (opened r) f p), λ h. absurd (h .0 v));
+          refusals = λ f. (λ p. absurd (begins≢refuses (opened r) f p), λ h. absurd (h .0 v));
         }
     go (some f) e =
         let h = seven f (first-some (requestTest r ∷ []) form tests f .0 e) in
         record {
-          sessions = λ s. (λ p. absurd (gives≢refuses s f (sym p)), λ x. absurd (h .0 (x .0)));
+          sessions = λ s. (λ p. absurd (begins≢refuses s f (sym p)), λ x. absurd (h .0 (x .0)));
           refusals = λ g. (λ p. (h .0, sym (refuses-injective f g p) ∙ h .1), λ x. ap refuses (h .1 ∙ sym (x .1)));
         }
 
 -- what opening gives is the fresh session of a service
-pub opened-by : (r : ℕ) (s : Session) → opening r ≡ gives s → Service r × (opened r ≡ s)
+pub opened-by : (r : ℕ) (s : Session) → opening r ≡ begins s → Service r × (opened r ≡ s)
 opened-by r s e = let h = opening-promise r .sessions s .0 e in (h .0, sym (fresh-is r s (h .1)))
 
 -- ---- a round
@@ -226,8 +226,6 @@ module _ (bytes : List ℕ) (b : Bytes bytes) (s : Session) (m : Move) where
       answer = ap (λ (y : Outcome). y .answer) is;
       answered = subst (λ (y : Outcome). Demand2 (policyOf bytes) (s .request) (y .session .shown) (y .session .declined) (x .ended)) (sym is)
           (demand2 bytes b w (s .request) (shownAfter s m) (declinedAfter s m));
-      denied-when = subst (λ (y : Outcome). DeniedWhen (policyOf bytes) (s .request) (y .session .shown) (y .session .declined) (x .ended)) (sym is)
-          (denied-when bytes b w (s .request) (shownAfter s m) (declinedAfter s m));
       request = ap (λ (y : Outcome). y .session .request) is;
       shown = ap (λ (y : Outcome). y .session .shown) is;
       declined = ap (λ (y : Outcome). y .session .declined) is;
@@ -246,7 +244,11 @@ module _ (bytes : List ℕ) (b : Bytes bytes) (s : Session) (m : Move) where
 
 -- ---- changing policies
 
-all-sound : (s : Session) → SoundSixteenBit s → (before : List Turn) (vs : List Visit) → Every Fits vs
+-- a policy is a list of bytes and a shown set a 16-bit number
+abbrev Fitting : Visit → Type 0
+Fitting v = Bytes (v .policy) × (v .takes .shows < 2 ^ 16)
+
+all-sound : (s : Session) → SoundSixteenBit s → (before : List Turn) (vs : List Visit) → Every Fitting vs
     → Each (λ before t. SoundSixteenBit (t .gives .session)) before (runVisits s vs)
 unfolding Each runVisits
 all-sound s h before [] f = tt
@@ -268,7 +270,7 @@ counts bytes s m = go (roundRefusal bytes s)
     go none = inr ((λ rs. refl), refl)
     go (some f) = inl ((λ rs. refl), refl)
 
-at-most : (s : Session) → SoundSixteenBit s → (vs : List Visit) → Every Fits vs → length (acceptedOf (runVisits s vs)) + s .count ≤ 17
+at-most : (s : Session) → SoundSixteenBit s → (vs : List Visit) → Every Fitting vs → length (acceptedOf (runVisits s vs)) + s .count ≤ 17
 unfolding runVisits acceptedOf Counted
 at-most s h [] f = omega (arith, seventeen s h)
 at-most s h (v ∷ vs) f =
@@ -284,7 +286,7 @@ at-most s h (v ∷ vs) f =
     go (inl (k, e)) l = let c : o .session .count ≡ s .count = ap (λ (y : Session). y .count) e in omega (arith, ap length (k rest))
     go (inr (k, e)) l = omega (arith, k rest)
 
-pub always-sound : (r : ℕ) → Service r → (vs : List Visit) → Every Fits vs → AlwaysSound (opened r) vs
+pub always-sound : (r : ℕ) → Service r → (vs : List Visit) → Every Fitting vs → AlwaysSound (opened r) vs
 always-sound r v vs f =
     let h = opened-sound r v in
     let each = all-sound (opened r) h [] vs f in
@@ -294,3 +296,9 @@ always-sound r v vs f =
       each-fits = each-imp _ _ (λ before t g. g .sets) [] (runVisits (opened r) vs) each;
       longest = omega (arith, at-most (opened r) h vs f);
     }
+
+-- where all come with one policy they are the rounds of a list
+pub visits-mean : VisitsMean
+unfolding runVisits run
+visits-mean bytes s [] = refl
+visits-mean bytes s (m ∷ ms) = ap (λ (ts : List Turn). record { takes = m; gives = round bytes s m } ∷ ts) (visits-mean bytes (round bytes s m .session) ms)

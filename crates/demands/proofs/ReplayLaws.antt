@@ -1,6 +1,6 @@
 -- A list of rounds that the program runs is the list that the definitions run, so that demand 3 holds of it. Assumes nothing.
 use mathlib.Core.Path.{_∙_, _≡_, ap, refl, subst, sym}
-use mathlib.Core.List.{List, [], _∷_, map}
+use mathlib.Core.List.{List, [], _++_, _∷_, map}
 use Prim.Native.Nat.{_<_, _^_, _≤_, suc, ℕ}
 use lib.ListN.{drop, drop-of-length-le, getD, length}
 use lib.Seq.{drop-cons}
@@ -11,12 +11,18 @@ use Rattle.atoms.proofs.ByteLaws.{slice-bytes}
 use Rattle.rules.specs.Rules.{Every}
 use Rattle.rules.proofs.ListLaws.{every-map}
 use Rattle.session.specs.Refusals.{Refusal}
-use Rattle.session.specs.Rounds.{Move, Opened, Outcome, gives, opening, refuses, round, run}
+use Rattle.session.specs.Rounds.{Move, Opened, Outcome, Turn, begins, opening, refuses, round, run}
 use Rattle.session.specs.Sessions.{Session}
 use Rattle.session.specs.Types.{moveOf}
 use Rattle.demands.specs.Lists.{Linked}
-use Rattle.demands.specs.Replay.{Replayed, Replays, afterOpening, lastOf, oneMore, playOn, played, replayed, unplayed}
+use Rattle.demands.specs.Replay.{Replayed, Replays, afterOpening, oneMore, playOn, played, replayed, unplayed}
 use Rattle.demands.proofs.ClaimsProof.{claims}
+
+-- what the last of the rounds gave
+lastOf : Session → List Turn → Replayed
+lastOf s [] = unplayed s
+lastOf s (t ∷ []) = played (t .gives)
+lastOf s (t ∷ u ∷ ts) = lastOf s (u ∷ ts)
 
 run-linked : (bytes : List ℕ) (s : Session) (ms : List Move) → Linked bytes s ms (run (round bytes) s ms)
 unfolding Linked run
@@ -35,6 +41,12 @@ unfolding playOn lastOf run
 all-last bytes s [] = refl
 all-last bytes s (m ∷ ms) = played-last bytes s m (round bytes s m) ms
 
+last-one : (s : Session) (t : Turn) (ts : List Turn) → lastOf s (ts ++ (t ∷ [])) ≡ played (t .gives)
+unfolding lastOf
+last-one s t [] = refl
+last-one s t (u ∷ []) = refl
+last-one s t (u ∷ v ∷ ts) = last-one s t (v ∷ ts)
+
 -- without a session nothing is played
 unopened-stays : (bytes : List ℕ) (f : Refusal) (ms : List Move) → playOn bytes (afterOpening (refuses f)) ms ≡ afterOpening (refuses f)
 unfolding playOn
@@ -42,19 +54,23 @@ unopened-stays bytes f [] = refl
 unopened-stays bytes f (m ∷ ms) = unopened-stays bytes f ms
 
 replays : (bytes : List ℕ) → Bytes bytes → (r : ℕ) (ps : List ℕ) → Every (λ p. p < 2 ^ 16) ps → Replays bytes r ps (replayed bytes r ps)
-unfolding replayed
+unfolding replayed lastOf
 replays bytes b r ps l = record {
   unopened-one = λ f e. ap (λ (o : Opened). playOn bytes (afterOpening o) ms) e ∙ unopened-stays bytes f ms;
   opened-one = λ s e. record {
     rounds = run (round bytes) s ms;
     linked = run-linked bytes s ms;
-    last = ap (λ (o : Opened). playOn bytes (afterOpening o) ms) e ∙ all-last bytes s ms;
+    unplayed-one = λ h. is s e ∙ ap (lastOf s) h;
+    last = λ ts t h. is s e ∙ ap (lastOf s) h ∙ last-one s t ts;
     demand3 = λ w. claims .demand3 bytes b w r s e ms (every-map (λ p. p < 2 ^ 16) _ moveOf (λ p h. h) ps l) (run (round bytes) s ms) (run-linked bytes s ms);
   };
 }
   where
     ms : List Move
     ms = map moveOf ps
+
+    is : (s : Session) → opening r ≡ begins s → playOn bytes (afterOpening (opening r)) ms ≡ lastOf s (run (round bytes) s ms)
+    is s e = ap (λ (o : Opened). playOn bytes (afterOpening o) ms) e ∙ all-last bytes s ms
 
 -- what the checker knows of a slice of 16-bit numbers
 slice-sets : (ps : List ℕ) → ((i : ℕ) → Fits w16 (getD ps i 0)) → Every (λ p. p < 2 ^ 16) ps

@@ -17,7 +17,7 @@ use Rattle.model.proofs.DisclosureLaws.{Low}
 use Rattle.search.specs.Question.{Question}
 use Rattle.session.specs.Endings.{Ending, Policy, ask, deny, ending, grant}
 use Rattle.session.proofs.AnswerLaws.{FirstWay, Obtainable, Says, Way, ending-says}
-use Rattle.demands.specs.Lists.{Asks, Final, Over, Round, SomeRound, declinedBy, lastQuestion, questionOf, shownBy}
+use Rattle.demands.specs.Lists.{Asks, Final, Over, Round, SomeRound, declinedBy, lastQuestion, questionIn, shownBy}
 use Rattle.demands.proofs.EachLaws.{Past}
 use Rattle.demands.proofs.ListLaws.{asks-iff}
 
@@ -35,12 +35,12 @@ module _ (pol : Policy) (low : Every Low (pol .disclosure)) (r : ℕ) where
   -- a round before another ended in a question
   pub asked-before : (past : List Round) (u t : Round) (g : Genuine past u) → Genuine (u ∷ past) t
       → (unlocks (pol .access) r (shownBy (u ∷ past)) ≡ false)
-      × FirstWay pol low r (shownBy (u ∷ past)) (declinedBy (u ∷ past)) (questionOf (u .ended))
+      × FirstWay pol low r (shownBy (u ∷ past)) (declinedBy (u ∷ past)) (questionIn (u .ended))
   asked-before past u t g h = go (u .ended) refl (says past u g)
     where
       go : (e : Ending) → u .ended ≡ e → Says pol low r (shownBy (u ∷ past)) (declinedBy (u ∷ past)) e
           → (unlocks (pol .access) r (shownBy (u ∷ past)) ≡ false)
-          × FirstWay pol low r (shownBy (u ∷ past)) (declinedBy (u ∷ past)) (questionOf e)
+          × FirstWay pol low r (shownBy (u ∷ past)) (declinedBy (u ∷ past)) (questionIn e)
       go grant e s = absurd (h .open-before (inl (inl e)))
       go deny e s = absurd (h .open-before (inl (inr e)))
       go (ask q) e s = s
@@ -64,7 +64,7 @@ module _ (pol : Policy) (low : Every Low (pol .disclosure)) (r : ℕ) where
       N = declinedBy (u ∷ past)
 
       Q : ℕ
-      Q = questionOf (u .ended) .asks
+      Q = questionIn (u .ended) .asks
 
       p : ℕ
       p = t .takes .shows
@@ -196,7 +196,7 @@ module _ (pol : Policy) (low : Every Low (pol .disclosure)) (r : ℕ) where
       last : (past : List Round) (t : Round) → Past Genuine past → Genuine past t → Subset (difference (lastQuestion past .asks) (t .takes .shows)) A
       last [] t g h k m = absurd (none-in-empty k (difference-iff empty (t .takes .shows) k .0 m .0))
       last (u ∷ past) t g h k m =
-          (asked-before past u t (g .1) h) .1 .all k (difference-iff (questionOf (u .ended) .asks) (t .takes .shows) k .0 m .0) .askable-one
+          (asked-before past u t (g .1) h) .1 .all k (difference-iff (questionIn (u .ended) .asks) (t .takes .shows) k .0 m .0) .askable-one
 
   -- ---- deny
 

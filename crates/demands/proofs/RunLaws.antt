@@ -20,12 +20,12 @@ use Rattle.session.specs.Sessions.{CountKept, Finished, Service, Session, Sound
 use Rattle.session.proofs.SessionLaws.{round-refused, round-worked}
 use Rattle.session.proofs.SoundLaws.{ending-sound}
 use Rattle.demands.specs.Demand3.{Responds}
-use Rattle.demands.specs.Lists.{Each, Over, Round, acceptedOf, addRound, declinedBy, declinedNext, lastQuestion, phaseFrom, questionOf, sessionFrom, shownBy, shownNext}
+use Rattle.demands.specs.Lists.{Each, Over, Round, acceptedOf, addRound, declinedBy, declinedNext, lastQuestion, phaseFrom, questionIn, sessionFrom, shownBy, shownNext}
 use Rattle.demands.proofs.EachLaws.{Past}
 use Rattle.demands.proofs.ListLaws.{over-dec}
 use Rattle.demands.proofs.RoundLaws.{Genuine, says, spent, spent-known, spent-most}
 
-question-after : (e : Ending) → question (phaseAfter e) ≡ questionOf e
+question-after : (e : Ending) → question (phaseAfter e) ≡ questionIn e
 question-after grant = refl
 question-after deny = refl
 question-after (ask q) = refl

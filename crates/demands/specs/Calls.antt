@@ -1,7 +1,9 @@
 -- A list of rounds as the callers of the program make it, in the program's own types (session's specs/Types says what they mean). Assumes nothing.
 use mathlib.Core.Path.{_≡_}
+use mathlib.Core.Logic.{_↔_}
 use mathlib.Core.List.{List, [], _∷_, map}
 use Prim.Native.Nat.{_<_, _^_, ℕ}
+use lib.ListN.{length}
 use Rattle.atoms.specs.LittleEndian.{Bytes}
 use Rattle.rules.specs.Rules.{Every}
 use Rattle.policy.specs.WrittenForm.{WellFormed}
@@ -11,6 +13,7 @@ use Rattle.session.specs.declared.Opened.the-variants as opened
 use Rattle.session.specs.declared.Outcome.{Outcome}
 use Rattle.session.specs.declared.Session.{Session}
 use Rattle.demands.specs.Demand3.{Demand3}
+use Rattle.demands.specs.Lists.{Linked}
 
 -- os are the results of calls of the round function, one for each p, with one policy: each meets the function's contract; the first was given s, every
 -- later one "the session that the one before gave back, refused or not"
@@ -33,3 +36,9 @@ ProgramMeetsDemand3 =
     (bytes : List ℕ) → Bytes bytes → WellFormed bytes → (r : ℕ) (s : Session) → openedOf (opened.Fresh s) ≡ opening r
     → (ps : List ℕ) → Every (λ p. p < 2 ^ 16) ps → (os : List Outcome) → Calls bytes s ps os
     → Demand3 bytes r (sessionOf s) (map moveOf ps) (turnsOf ps os)
+
+-- Calls leaves none out: results that are linked as a list of rounds is are those of calls
+abbrev pub CallsMean : Type 0
+CallsMean =
+    (bytes : List ℕ) (s : Session) (ps : List ℕ) (os : List Outcome) → length os ≡ length ps
+    → Calls bytes s ps os ↔ Linked bytes (sessionOf s) (map moveOf ps) (turnsOf ps os)

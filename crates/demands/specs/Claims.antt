@@ -1,8 +1,10 @@
 -- The theorems that a customer reads, on one page; proofs/ClaimsProof has them all. What they leave to belief is that the words in which they are
 -- stated say what the paper says: Member and Subset; readRecord, recordAt, rulesOf and level; Levelled, BodyHolds, ClosedBeside, Least and
--- OneStable; Closed and Disclosable; WellFormed and PolicyRefused with their parts; Gives; Unlocks, Missing and Preferred; SoundSession and Finished
--- with their parts; acceptedOf, Each, SomeRound, SomeNext, ByRound, Linked and Calls; Licensed and Client; and the maps from the program's types
--- (specs/Types of records, policy, model and session). Assumes nothing.
+-- OneStable; Closed and Disclosable; WellFormed and PolicyRefused with their parts; Gives; Unlocks, Missing, FirstMissing and Preferred; SoundSession,
+-- SixteenBit and Finished with their parts; Opening, FreshFor and AcceptedRound; Linked, acceptedOf, Each, SomeRound, SomeNext, Asks, Final, Over and
+-- ByRound; askableCount and lackedCount; Licensed and Client; Visit; and the maps from the program's types (specs/Types of records, policy, model,
+-- search, session and demands). That lent bytes are not written stands in each contract, and demand 3 of a whole list in that of `replay`.
+-- Assumes nothing.
 use mathlib.Core.Path.{_≡_}
 use mathlib.Core.List.{List}
 use Prim.Native.Nat.{_<_, _^_, ℕ}
@@ -16,15 +18,15 @@ use Rattle.evaluation.specs.Theorems as evaluation
 use Rattle.model.specs.Theorems as model
 use Rattle.search.specs.Theorems as search
 use Rattle.session.specs.Theorems as session
-use Rattle.session.specs.Rounds.{Move, gives, opening, round}
-use Rattle.session.specs.Sessions.{Session, SixteenBit}
-use Rattle.demands.specs.Calls.{ProgramMeetsDemand3}
+use Rattle.session.specs.Rounds.{Move, begins, opening, round}
+use Rattle.session.specs.Sessions.{Session}
+use Rattle.demands.specs.Calls.{CallsMean, ProgramMeetsDemand3}
 use Rattle.demands.specs.Constants.{Constants}
 use Rattle.demands.specs.Demand1.{Demand1}
 use Rattle.demands.specs.Demand3.{Demand3Holds}
 use Rattle.demands.specs.Lists.{ListsMean}
 use Rattle.demands.specs.Marked.{Marked}
-use Rattle.demands.specs.Promises.{AlwaysSound, Fits, Opening, RoundPromise, Visit}
+use Rattle.demands.specs.Promises.{AlwaysSound, Opening, RoundPromise, Visit, VisitsMean}
 use Rattle.demands.specs.Types.{replayedOf}
 use Rattle.demands.specs.declared.Replayed.{Replayed}
 
@@ -49,15 +51,18 @@ pub record Claims : Type 1 where
   pub sessions : session.Theorems
   -- what opening gives for each request, a 16-bit number
   pub opens : (r : ℕ) → r < 2 ^ 16 → Opening r (opening r)
-  -- demand 1, and demand 2 with what an accepted round does to the session, of a round of any session of 16-bit sets
-  pub demand1 : (bytes : List ℕ) → Bytes bytes → (s : Session) → SixteenBit s → (m : Move) → m .shows < 2 ^ 16 → Demand1 bytes s (round bytes s m)
-  pub demand2 : (bytes : List ℕ) → Bytes bytes → (s : Session) → SixteenBit s → (m : Move) → m .shows < 2 ^ 16
-      → RoundPromise bytes s m (round bytes s m)
-  -- demand 3, of the definitions and of the program's calls; and what its lists say
+  -- demand 1, and demand 2 with what an accepted round does to the session, of a round of any session
+  pub demand1 : (bytes : List ℕ) → Bytes bytes → (s : Session) (m : Move) → m .shows < 2 ^ 16 → Demand1 bytes s (round bytes s m)
+  pub demand2 : (bytes : List ℕ) → Bytes bytes → (s : Session) (m : Move) → m .shows < 2 ^ 16 → RoundPromise bytes s m (round bytes s m)
+  -- demand 3, of the definitions and of the program's calls; what its lists say, and which lists of calls it is about
   pub demand3 : Demand3Holds
   pub program : ProgramMeetsDemand3
-  pub replayed-one : (x y : Replayed) → replayedOf x ≡ replayedOf y → x ≡ y
+  pub calls : CallsMean
   pub lists : ListsMean
+  -- what the program's answer to a whole list means is one-to-one
+  pub replayed-one : (x y : Replayed) → replayedOf x ≡ replayedOf y → x ≡ y
   -- "Every session that opening and rounds give is sound, also when policies are changed between rounds. The longest sessions have 17 rounds."
-  pub always-sound : (r : ℕ) (s : Session) → opening r ≡ gives s → (vs : List Visit) → Every Fits vs → AlwaysSound s vs
+  pub always-sound : (r : ℕ) (s : Session) → opening r ≡ begins s → (vs : List Visit)
+      → Every (λ v. Bytes (v .policy) × (v .takes .shows < 2 ^ 16)) vs → AlwaysSound s vs
+  pub visits : VisitsMean
   pub marked : Marked

@@ -1,6 +1,7 @@
 -- Document 01's own numbers, held against the names that stand for them. Assumes nothing.
 use mathlib.Core.Path.{_≡_}
 use mathlib.Core.List.{[], _∷_}
+use Prim.Native.Nat.{ℕ}
 use Rattle.atoms.specs.Atoms.{firstDerived, lastCredential, lastDerived, violation}
 use Rattle.atoms.specs.LittleEndian.{littleEndian}
 use Rattle.records.specs.Records.{accessKind, disclosureKind}
@@ -19,3 +20,4 @@ pub record Constants : Type 0 where
   pub little-endian : littleEndian (0x01 ∷ 0x02 ∷ 0x03 ∷ 0x04 ∷ 0x05 ∷ 0x06 ∷ 0x07 ∷ 0x08 ∷ []) ≡ 0x0807060504030201
   -- "its number, and for the policy "at" with its record number, as "refused 6 at 0""
   pub refused-6-at-0 : (refusalNumber (at 6 0) ≡ 6) × (recordNumber (at 6 0) ≡ 0)
+  pub refused-n-at-k : (n k : ℕ) → (refusalNumber (at n k) ≡ n) × (recordNumber (at n k) ≡ k)

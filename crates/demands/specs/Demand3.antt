@@ -13,7 +13,7 @@ use Rattle.evaluation.specs.Unlocking.{Unlocks}
 use Rattle.model.specs.Disclosure.{Disclosable, askable}
 use Rattle.session.specs.Endings.{Policy, deny, ending, grant, policyOf}
 use Rattle.session.specs.Refusals.{number}
-use Rattle.session.specs.Rounds.{Answer, Move, Turn, ends, gives, opening, refuse, round, run}
+use Rattle.session.specs.Rounds.{Answer, Move, Turn, ends, begins, opening, refuse, round, run}
 use Rattle.session.specs.Sessions.{Session}
 use Rattle.demands.specs.Demand2.{Demand2, DeniedWhen}
 use Rattle.demands.specs.Lists.{Asks, ByRound, Each, Final, Linked, Over, Round, SomeRound, acceptedOf, declinedBy, declinedNext, reply, sessionFrom, shownBy, shownNext}
@@ -106,5 +106,5 @@ pub record Demand3 (bytes : List ℕ) (r : ℕ) (s : Session) (ms : List Move) (
 -- set of credentials, and the rounds ts answered the list
 abbrev pub Demand3Holds : Type 0
 Demand3Holds =
-    (bytes : List ℕ) → Bytes bytes → WellFormed bytes → (r : ℕ) (s : Session) → opening r ≡ gives s
+    (bytes : List ℕ) → Bytes bytes → WellFormed bytes → (r : ℕ) (s : Session) → opening r ≡ begins s
     → (ms : List Move) → Every (λ m. m .shows < 2 ^ 16) ms → (ts : List Turn) → Linked bytes s ms ts → Demand3 bytes r s ms ts

@@ -59,15 +59,15 @@ Over = SomeRound (λ t. Final (t .ended))
 -- ---- of accepted rounds, the latest first
 
 -- the set asked for, if there is one
-abbrev pub questionOf : Ending → Question
-questionOf grant = noQuestion
-questionOf deny = noQuestion
-questionOf (ask q) = q
+abbrev pub questionIn : Ending → Question
+questionIn grant = noQuestion
+questionIn deny = noQuestion
+questionIn (ask q) = q
 
 -- the question of the latest
 unfoldable pub lastQuestion : List Round → Question
 lastQuestion [] = noQuestion
-lastQuestion (t ∷ past) = questionOf (t .ended)
+lastQuestion (t ∷ past) = questionIn (t .ended)
 
 -- "Shown by round k is each credential in the p of one of rounds 1 to k."
 unfoldable pub shownBy : List Round → ℕ
@@ -89,7 +89,7 @@ declinedNext past m = union (declinedBy past) (difference (lastQuestion past .as
 -- ones it holds"
 unfoldable pub reply : ℕ → ℕ → List Round → ℕ
 reply H I [] = I
-reply H I (t ∷ past) = intersection (questionOf (t .ended) .asks) H
+reply H I (t ∷ past) = intersection (questionIn (t .ended) .asks) H
 
 -- the session after them, read off the list alone
 unfoldable pub phaseFrom : List Round → Phase

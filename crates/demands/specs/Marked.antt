@@ -12,9 +12,9 @@ use Rattle.policy.specs.WrittenForm.{at}
 use Rattle.evaluation.specs.Unlocking.{unlocks}
 use Rattle.model.specs.Answers.{disclosableAnswer, given, modelAnswer}
 use Rattle.session.specs.Endings.{ask, deny, grant, policyOf}
-use Rattle.session.specs.Rounds.{Answer, Move, Turn, ends, gives, opening, round, run}
+use Rattle.session.specs.Rounds.{Answer, Move, Turn, ends, begins, opening, round, run}
 use Rattle.session.specs.Sessions.{opened}
-use Rattle.demands.specs.Demand3.{Client, Licensed, lackedCount}
+use Rattle.demands.specs.Demand3.{Client, Licensed, askableCount, lackedCount}
 use Rattle.demands.specs.Lists.{acceptedOf}
 
 -- "Policy A: 16 if 0, 1; 16 if 2, not 3; 63 if 0, 2; disclosure 0 always; 1 if 0; 2 always."
@@ -67,6 +67,7 @@ asking Q = ends (ask (record { asks = Q }))
 pub record Witness : Type 0 where
   pub licensed : Licensed (policyOf policyA) 16 (setOf (0 ∷ 1 ∷ [])) empty (setOf (0 ∷ 1 ∷ []))
   pub client : Client (setOf (0 ∷ 1 ∷ [])) empty (acceptedOf (turns policyA (0x0000 ∷ 0x0000 ∷ 0x0003 ∷ [])))
+  pub askable-ones : askableCount (policyOf policyA) ≡ 3
   pub bound : 2 + lackedCount (policyOf policyA) (setOf (0 ∷ 1 ∷ [])) ≡ 3
 
 pub record Marked : Type 0 where
@@ -75,7 +76,7 @@ pub record Marked : Type 0 where
   -- a disclosure record in bytes, "1 if 0"
   pub disclosure-example : (disclose 1 if (0 ∷ [])) ≡ 0x02 ∷ 0x01 ∷ 0x01 ∷ 0 ∷ 0 ∷ 0 ∷ 0 ∷ 0 ∷ 0 ∷ 0 ∷ 0 ∷ 0 ∷ 0 ∷ 0 ∷ 0 ∷ 0 ∷ 0 ∷ 0 ∷ []
   -- opening gives the session that each list of rounds begins with
-  pub opens : opening 16 ≡ gives (opened 16)
+  pub opens : opening 16 ≡ begins (opened 16)
   -- "(a) the three rounds above": "round 1 got 0000 ask 0004", "round 2 got 0000 ask 0003", "round 3 got 0003 grant"
   pub a : lines policyA (0x0000 ∷ 0x0000 ∷ 0x0003 ∷ []) ≡ (1, 0x0000, asking 0x0004) ∷ (2, 0x0000, asking 0x0003) ∷ (3, 0x0003, ends grant) ∷ []
   -- "(b) empty policy, request 16: deny in round 1"
@@ -109,5 +110,8 @@ pub record Marked : Type 0 where
   pub j-disclosed : disclosableAnswer policyB empty ≡ given (setOf (0 ∷ 1 ∷ 2 ∷ 3 ∷ []))
   pub j-alone : unlocksBy policyB 16 (setOf (2 ∷ 3 ∷ [])) ≡ true
   pub j-beside : unlocksBy policyB 16 (union (setOf (2 ∷ 3 ∷ [])) (setOf (0 ∷ []))) ≡ false
+  -- "grant or deny comes by round d + 1", and not sooner: two askable credentials, and three rounds
+  pub d-reached : answers ((16 if 0 ∷ [] not []) ++ (16 if 1 ∷ [] not []) ++ (disclose 0 if []) ++ (disclose 1 if [])) (empty ∷ empty ∷ empty ∷ [])
+      ≡ asking 0x0001 ∷ asking 0x0002 ∷ ends deny ∷ []
   -- demand 3's last sentence is not empty
   pub witness : Witness

@@ -1,18 +1,17 @@
 -- What opening, a single round, and rounds under changing policies promise beside the three demands. Assumes nothing.
 use mathlib.Core.Path.{_≡_}
 use mathlib.Core.Logic.{_↔_}
-use mathlib.Core.List.{List, [], _∷_}
-use Prim.Native.Nat.{_<_, _^_, _≤_, suc, ℕ}
+use mathlib.Core.List.{List, [], _∷_, map}
+use Prim.Native.Nat.{_≤_, suc, ℕ}
 use lib.ListN.{length}
-use Rattle.atoms.specs.LittleEndian.{Bytes}
 use Rattle.atoms.specs.Sets.{difference, empty, union}
 use Rattle.policy.specs.WrittenForm.{WellFormed}
 use Rattle.search.specs.Question.{Question}
 use Rattle.session.specs.Endings.{Ending, ask, deny, grant, policyOf}
 use Rattle.session.specs.Refusals.{Refusal, number}
-use Rattle.session.specs.Rounds.{Move, Opened, Outcome, Turn, ends, gives, refuses, round}
+use Rattle.session.specs.Rounds.{Move, Opened, Outcome, Turn, ends, begins, refuses, round, run}
 use Rattle.session.specs.Sessions.{Finished, Service, Session, SixteenBit, SoundSession, closed, denied, fresh, granted, question, waiting}
-use Rattle.demands.specs.Demand2.{Demand2, DeniedWhen}
+use Rattle.demands.specs.Demand2.{Demand2}
 use Rattle.demands.specs.Lists.{Each, acceptedOf}
 
 -- "Opening gives a fresh one: P and N empty, count 0."
@@ -25,15 +24,14 @@ pub record FreshFor (r : ℕ) (s : Session) : Type 0 where
 
 -- "opening gives only 7 and then no session"
 pub record Opening (r : ℕ) (o : Opened) : Type 0 where
-  pub sessions : (s : Session) → (o ≡ gives s) ↔ (Service r × FreshFor r s)
+  pub sessions : (s : Session) → (o ≡ begins s) ↔ (Service r × FreshFor r s)
   pub refusals : (f : Refusal) → (o ≡ refuses f) ↔ ((Service r → ⊥) × (f ≡ number 7))
 
 -- an accepted round of the session s, which ended in e
 pub record AcceptedRound (bytes : List ℕ) (s : Session) (m : Move) (o : Outcome) (e : Ending) : Type 0 where
   pub answer : o .answer ≡ ends e
-  -- demand 2 of this round, and when it is a deny
+  -- demand 2 of this round
   pub answered : Demand2 (policyOf bytes) (s .request) (o .session .shown) (o .session .declined) e
-  pub denied-when : DeniedWhen (policyOf bytes) (s .request) (o .session .shown) (o .session .declined) e
   pub request : o .session .request ≡ s .request
   -- "P becomes P with p"
   pub shown : o .session .shown ≡ union (s .shown) (m .shows)
@@ -57,10 +55,7 @@ pub record Visit : Type 0 where
   pub policy : List ℕ
   pub takes : Move
 
--- its policy is a list of bytes and its p a 16-bit number
-abbrev pub Fits : Visit → Type 0
-Fits v = Bytes (v .policy) × (v .takes .shows < 2 ^ 16)
-
+-- each gets the session that the one before gave back, refused or not
 unfoldable pub runVisits : Session → List Visit → List Turn
 runVisits s [] = []
 runVisits s (v ∷ vs) = let o = round (v .policy) s (v .takes) in record { takes = v .takes; gives = o } ∷ runVisits (o .session) vs
@@ -72,3 +67,7 @@ pub record AlwaysSound (s : Session) (vs : List Visit) : Type 0 where
   -- "a set of credentials is a 16-bit number"
   pub each-fits : Each (λ before t. SixteenBit (t .gives .session)) [] (runVisits s vs)
   pub longest : length (acceptedOf (runVisits s vs)) ≤ 17
+
+-- where all come with one policy they are the rounds of a list
+abbrev pub VisitsMean : Type 0
+VisitsMean = (bytes : List ℕ) (s : Session) (ms : List Move) → runVisits s (map (λ m. record { policy = bytes; takes = m }) ms) ≡ run (round bytes) s ms

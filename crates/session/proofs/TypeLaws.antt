@@ -93,7 +93,7 @@ outcome-back x =
     ∙ ap (λ (s : Session). record { answer = x .answer; session = s }) (session-back (x .session))
 
 openedBack : O.Opened → Opened
-openedBack (O.gives s) = opened.Fresh (sessionBack s)
+openedBack (O.begins s) = opened.Fresh (sessionBack s)
 openedBack (O.refuses f) = opened.Refused (refusalBack f)
 
 opened-back : (x : Opened) → openedBack (openedOf x) ≡ x

@@ -15,6 +15,7 @@ pub record Policy : Type 0 where
   pub access : List Rule
   pub disclosure : List Rule
 
+-- of a policy's bytes: its access rules and its disclosure rules
 abbrev pub policyOf : List ℕ → Policy
 policyOf bytes = record { access = rulesOf accessKind bytes; disclosure = rulesOf disclosureKind bytes }
 
@@ -33,5 +34,6 @@ conclude true m = grant
 conclude false none = deny
 conclude false (some q) = ask q
 
+-- of a request, once P is shown and N declined
 unfoldable pub ending : Policy → ℕ → ℕ → ℕ → Ending
 ending pol r P N = let m = chosen (pol .access) r P (obtainable pol P N) in conclude (unlocks (pol .access) r P) m

@@ -110,12 +110,13 @@ run f s (m ∷ ms) = let o = f s m in record { takes = m; gives = o } ∷ run f 
 
 -- "opening gives only 7 and then no session"
 pub data Opened : Type 0 where
-  gives : Session → Opened
+  begins : Session → Opened
   refuses : Refusal → Opened
 
 abbrev pub openUnless : Option Refusal → Session → Opened
-openUnless none s = gives s
+openUnless none s = begins s
 openUnless (some f) s = refuses f
 
+-- of a request
 unfoldable pub opening : ℕ → Opened
 opening r = openUnless (firstFailed (requestTest r ∷ [])) (opened r)

@@ -30,7 +30,7 @@ pub record Session : Type 0 where
 abbrev pub opened : ℕ → Session
 opened r = record { request = r; shown = empty; declined = empty; count = 0; phase = fresh }
 
--- "(Q is empty when fresh)"
+-- "(Q is empty when fresh)"; a closed session waits on nothing either
 abbrev pub question : Phase → Question
 question fresh = noQuestion
 question (waiting q) = q
@@ -70,6 +70,7 @@ pub record SoundSession (s : Session) : Type 0 where
   pub service : Service (s .request)
   pub phase : PhaseKept s (s .phase)
 
+-- "closed with grant or deny"
 abbrev pub Finished : Session → Type 0
 Finished s = (v : Verdict) × (s .phase ≡ closed v)
 

@@ -28,35 +28,43 @@ refusalOf refusal.Request = R.number 7
 refusalOf refusal.Unsound = R.number 8
 refusalOf refusal.Closed = R.number 9
 
+-- "closed with grant or deny"
 abbrev pub verdictOf : Verdict → S.Verdict
 verdictOf Granted = S.granted
 verdictOf Denied = S.denied
 
+-- the set asked for
 abbrev pub questionOf : ℕ → Q.Question
 questionOf q = record { asks = q }
 
+-- "fresh, waiting on a question Q, or closed with grant or deny"
 abbrev pub phaseOf : Phase → S.Phase
 phaseOf Fresh = S.fresh
 phaseOf (Waiting q) = S.waiting (questionOf q)
 phaseOf (Closed v) = S.closed (verdictOf v)
 
+-- "A session has a request, shown set P, declined set N, a count of rounds, and a phase"
 abbrev pub sessionOf : Session → S.Session
 sessionOf s = record { request = s .request; shown = s .shown; declined = s .declined; count = s .count; phase = phaseOf (s .phase) }
 
+-- "grant", "deny", or "the preferred one is asked"
 abbrev pub endingOf : Ending → E.Ending
 endingOf Grant = E.grant
 endingOf Deny = E.deny
 endingOf (Ask q) = E.ask (questionOf q)
 
+-- "A round is accepted if it ends in grant, deny or a question"; any other is refused
 abbrev pub answerOf : Answer → O.Answer
 answerOf (Ends e) = O.ends (endingOf e)
 answerOf (Refused f) = O.refuse (refusalOf f)
 
+-- "A session goes into a round and comes out of it."
 abbrev pub outcomeOf : Outcome → O.Outcome
 outcomeOf o = record { answer = answerOf (o .answer); session = sessionOf (o .session) }
 
+-- "opening gives only 7 and then no session"
 abbrev pub openedOf : Opened → O.Opened
-openedOf (opened.Fresh s) = O.gives (sessionOf s)
+openedOf (opened.Fresh s) = O.begins (sessionOf s)
 openedOf (opened.Refused f) = O.refuses (refusalOf f)
 
 -- the set that a round takes

@@ -23,18 +23,22 @@ mod ending;
 pub mod refusal;
 mod sound;
 
+// How a session ended.
 pub enum Verdict {
     Granted,
     Denied,
 }
 
+// Where a session stands.
 pub enum Phase {
+    // No round yet.
     Fresh,
     // On a question: the set asked for.
     Waiting(u16),
     Closed(Verdict),
 }
 
+// A member's request, what was shown and declined so far, and how many rounds there were.
 pub struct Session {
     pub request: u16,
     pub shown: u16,

@@ -15,6 +15,7 @@ pub(crate) fn is_service(request: u16) -> bool
     FIRST_DERIVED as u16 <= request && request <= LAST_DERIVED as u16
 }
 
+// What opening and rounds give is sound; anything else may be handed in.
 pub(crate) fn is_sound(session: Session) -> bool
     ensures { λ r. ⌜ r ≡ isSound (sessionOf session) ⌝ }
 {
@@ -46,6 +47,7 @@ fn is_untouched(session: Session) -> bool
     session.count == 0
 }
 
+// The question, and the count.
 fn waiting_fits(session: Session, asked: u16) -> bool
     ensures { λ r. ⌜ r ≡ phaseTest (sessionOf session) (waiting (questionOf asked)) ⌝ }
 {
@@ -68,6 +70,7 @@ fn count_fits(session: Session) -> bool
     1 <= session.count && session.count as u32 <= most
 }
 
+// The session has ended.
 pub(crate) fn is_closed(phase: Phase) -> bool
     ensures { λ r. ⌜ r ≡ isClosed (phaseOf phase) ⌝ }
 {

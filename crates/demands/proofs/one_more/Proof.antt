@@ -8,9 +8,6 @@ use Rattle.demands.specs.Types.{replayedOf}
 use borrow.Author.Needs.{needs}
 use Rattle.demands.proofs.one_more.Statement.{statement}
 use Rattle.demands.proofs.one_more.Tie as tie
-use Rattle.demands.proofs.one_more.Reads as reads
-use Rattle.demands.proofs.one_more.Lts as lts
-use Rattle.session.proofs.Session.round.Reads as round-reads
 
 enum-told : tie.Need-enum-told
 enum-told c = search needs

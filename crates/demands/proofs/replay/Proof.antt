@@ -9,10 +9,6 @@ use Rattle.demands.specs.Types.{replayedOf}
 use Rattle.demands.proofs.ReplayLaws.{Reached, reached-first, reached-last, reached-next}
 use Rattle.demands.proofs.replay.Statement.{statement}
 use Rattle.demands.proofs.replay.Tie as tie
-use Rattle.demands.proofs.replay.Reads as reads
-use Rattle.demands.proofs.replay.Lts as lts
-use Rattle.demands.proofs.one_more.Reads as one-more-reads
-use Rattle.demands.proofs.start.Reads as start-reads
 
 abbrev Inv-loop : tie.InvT-loop
 Inv-loop policy request shown state₀ k₀ state k = (k ≤ length shown) × Reached policy request shown k (replayedOf state)

@@ -5,9 +5,6 @@ use Rattle.demands.specs.Replay.{afterOpening}
 use borrow.Author.Needs.{needs}
 use Rattle.demands.proofs.start.Statement.{statement}
 use Rattle.demands.proofs.start.Tie as tie
-use Rattle.demands.proofs.start.Reads as reads
-use Rattle.demands.proofs.start.Lts as lts
-use Rattle.session.proofs.Session.open.Reads as open-reads
 
 open-requires : tie.Need-open-requires
 open-requires c κs = search needs

@@ -11,11 +11,6 @@ use Rattle.search.proofs.SearchLaws.{none-first, none-last, none-next}
 use Rattle.search.proofs.SizedLaws.{lowest-inside}
 use Rattle.search.proofs.first_from.Statement.{statement}
 use Rattle.search.proofs.first_from.Tie as tie
-use Rattle.search.proofs.first_from.Reads as reads
-use Rattle.search.proofs.first_from.Lts as lts
-use Rattle.atoms.proofs.AtomSet.credentials.Reads as credentials-reads
-use Rattle.evaluation.proofs.levels.unlocks.Reads as unlocks-reads
-use Rattle.search.proofs.subset.next_of_size.Reads as next-of-size-reads
 
 abbrev Inv-loop : tie.InvT-loop
 Inv-loop heads positive negated starts request shown within lowest first candidate₀ candidate =

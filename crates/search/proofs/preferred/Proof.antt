@@ -13,12 +13,6 @@ use Rattle.search.proofs.SearchLaws.{NoneSmaller, smaller-all, smaller-
 use Rattle.search.proofs.StepLaws.{table-first, table-size}
 use Rattle.search.proofs.preferred.Statement.{statement}
 use Rattle.search.proofs.preferred.Tie as tie
-use Rattle.search.proofs.preferred.Reads as reads
-use Rattle.search.proofs.preferred.Lts as lts
-use Rattle.atoms.proofs.AtomSet.count.Reads as count-reads
-use Rattle.atoms.proofs.AtomSet.credentials.Reads as credentials-reads
-use Rattle.search.proofs.first_from.Reads as first-from-reads
-use Rattle.search.proofs.subset.lowest_members.Reads as lowest-members-reads
 
 abbrev Inv-loop : tie.InvT-loop
 Inv-loop heads positive negated starts request shown within lowest most n₀ n =

@@ -7,12 +7,6 @@ use Rattle.session.proofs.ProgramLaws.{round-decided, sound-count, soun
 use borrow.Author.Needs.{needs}
 use Rattle.session.proofs.open_round.Statement.{statement}
 use Rattle.session.proofs.open_round.Tie as tie
-use Rattle.session.proofs.open_round.Reads as reads
-use Rattle.session.proofs.open_round.Lts as lts
-use Rattle.session.proofs.ending.ending.Reads as ending-reads
-use Rattle.session.proofs.ending.phase_after.Reads as phase-after-reads
-use Rattle.session.proofs.ending.without.Reads as without-reads
-use Rattle.session.proofs.sound.question.Reads as question-reads
 
 question-requires : tie.Need-question-requires
 question-requires c κs = search needs

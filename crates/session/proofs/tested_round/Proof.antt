@@ -8,13 +8,6 @@ use Rattle.session.proofs.ProgramLaws.{refused-closed, refused-request,
 use borrow.Author.Needs.{needs}
 use Rattle.session.proofs.tested_round.Statement.{statement}
 use Rattle.session.proofs.tested_round.Tie as tie
-use Rattle.session.proofs.tested_round.Reads as reads
-use Rattle.session.proofs.tested_round.Lts as lts
-use Rattle.session.proofs.open_round.Reads as open-round-reads
-use Rattle.session.proofs.refused.Reads as refused-reads
-use Rattle.session.proofs.sound.is_closed.Reads as is-closed-reads
-use Rattle.session.proofs.sound.is_service.Reads as is-service-reads
-use Rattle.session.proofs.sound.is_sound.Reads as is-sound-reads
 
 is-service-requires : tie.Need-is-service-requires
 is-service-requires c κs = search needs

@@ -5,9 +5,6 @@ use Rattle.session.proofs.ProgramLaws.{opens-fresh, opens-refused}
 use borrow.Author.Needs.{needs}
 use Rattle.session.proofs.Session.open.Statement.{statement}
 use Rattle.session.proofs.Session.open.Tie as tie
-use Rattle.session.proofs.Session.open.Reads as reads
-use Rattle.session.proofs.Session.open.Lts as lts
-use Rattle.session.proofs.sound.is_service.Reads as is-service-reads
 
 is-service-requires : tie.Need-is-service-requires
 is-service-requires c κs = search needs

@@ -7,11 +7,6 @@ use Rattle.session.proofs.ProgramLaws.{round-tested, round-untested}
 use borrow.Author.Needs.{needs}
 use Rattle.session.proofs.Session.round.Statement.{statement}
 use Rattle.session.proofs.Session.round.Tie as tie
-use Rattle.session.proofs.Session.round.Reads as reads
-use Rattle.session.proofs.Session.round.Lts as lts
-use Rattle.policy.proofs.check.Reads as check-reads
-use Rattle.session.proofs.refused.Reads as refused-reads
-use Rattle.session.proofs.tested_round.Reads as tested-round-reads
 
 check-requires : tie.Need-check-requires
 check-requires c κs = search needs

@@ -2,8 +2,6 @@
 use borrow.Author.Needs.{needs}
 use Rattle.session.proofs.ending.concluded.Statement.{statement}
 use Rattle.session.proofs.ending.concluded.Tie as tie
-use Rattle.session.proofs.ending.concluded.Reads as reads
-use Rattle.session.proofs.ending.concluded.Lts as lts
 
 enum-known-found : tie.Need-enum-known-found
 enum-known-found c = search needs

@@ -7,14 +7,6 @@ use Rattle.session.proofs.ProgramLaws.{ends-found, ends-grant, locked-a
 use borrow.Author.Needs.{needs}
 use Rattle.session.proofs.ending.ending.Statement.{statement}
 use Rattle.session.proofs.ending.ending.Tie as tie
-use Rattle.session.proofs.ending.ending.Reads as reads
-use Rattle.session.proofs.ending.ending.Lts as lts
-use Rattle.atoms.proofs.AtomSet.credentials.Reads as credentials-reads
-use Rattle.evaluation.proofs.layout.access_rules.Reads as access-rules-reads
-use Rattle.evaluation.proofs.levels.unlocks.Reads as unlocks-reads
-use Rattle.search.proofs.preferred.Reads as preferred-reads
-use Rattle.session.proofs.ending.concluded.Reads as concluded-reads
-use Rattle.session.proofs.ending.obtainable.Reads as obtainable-reads
 
 access-rules-requires : tie.Need-access-rules-requires
 access-rules-requires c κs = search needs

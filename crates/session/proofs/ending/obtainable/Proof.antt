@@ -2,10 +2,6 @@
 use borrow.Author.Needs.{needs}
 use Rattle.session.proofs.ending.obtainable.Statement.{statement}
 use Rattle.session.proofs.ending.obtainable.Tie as tie
-use Rattle.session.proofs.ending.obtainable.Reads as reads
-use Rattle.session.proofs.ending.obtainable.Lts as lts
-use Rattle.model.proofs.disclosable_of.Reads as disclosable-of-reads
-use Rattle.session.proofs.ending.without.Reads as without-reads
 
 disclosable-of-requires : tie.Need-disclosable-of-requires
 disclosable-of-requires c κs = search needs

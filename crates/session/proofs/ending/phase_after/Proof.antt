@@ -2,8 +2,6 @@
 use borrow.Author.Needs.{needs}
 use Rattle.session.proofs.ending.phase_after.Statement.{statement}
 use Rattle.session.proofs.ending.phase_after.Tie as tie
-use Rattle.session.proofs.ending.phase_after.Reads as reads
-use Rattle.session.proofs.ending.phase_after.Lts as lts
 
 enum-told : tie.Need-enum-told
 enum-told c = search needs

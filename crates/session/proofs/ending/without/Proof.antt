@@ -3,8 +3,6 @@ use lib.Bits.{and-le-l}
 use borrow.Author.Needs.{needs}
 use Rattle.session.proofs.ending.without.Statement.{statement}
 use Rattle.session.proofs.ending.without.Tie as tie
-use Rattle.session.proofs.ending.without.Reads as reads
-use Rattle.session.proofs.ending.without.Lts as lts
 
 sub-result : tie.Need-sub-result
 sub-result c = and-le-l (c .args .set) (c .args .other)

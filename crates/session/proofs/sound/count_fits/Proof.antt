@@ -5,10 +5,6 @@ use Rattle.atoms.proofs.SizeLaws.{size-most}
 use borrow.Author.Needs.{needs}
 use Rattle.session.proofs.sound.count_fits.Statement.{statement}
 use Rattle.session.proofs.sound.count_fits.Tie as tie
-use Rattle.session.proofs.sound.count_fits.Reads as reads
-use Rattle.session.proofs.sound.count_fits.Lts as lts
-use Rattle.atoms.proofs.AtomSet.count.Reads as count-reads
-use Rattle.atoms.proofs.AtomSet.credentials.Reads as credentials-reads
 
 credentials-requires : tie.Need-credentials-requires
 credentials-requires c κs = search needs

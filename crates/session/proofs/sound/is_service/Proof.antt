@@ -3,8 +3,6 @@ use borrow.Author.Tests.{le-leb, lt-leb}
 use borrow.Author.Needs.{needs}
 use Rattle.session.proofs.sound.is_service.Statement.{statement}
 use Rattle.session.proofs.sound.is_service.Tie as tie
-use Rattle.session.proofs.sound.is_service.Reads as reads
-use Rattle.session.proofs.sound.is_service.Lts as lts
 
 cast-if1 : tie.Need-cast-if1
 cast-if1 c = search needs

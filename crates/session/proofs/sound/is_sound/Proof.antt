@@ -2,10 +2,6 @@
 use borrow.Author.Needs.{needs}
 use Rattle.session.proofs.sound.is_sound.Statement.{statement}
 use Rattle.session.proofs.sound.is_sound.Tie as tie
-use Rattle.session.proofs.sound.is_sound.Reads as reads
-use Rattle.session.proofs.sound.is_sound.Lts as lts
-use Rattle.session.proofs.sound.is_service.Reads as is-service-reads
-use Rattle.session.proofs.sound.phase_fits.Reads as phase-fits-reads
 
 is-service-requires : tie.Need-is-service-requires
 is-service-requires c κs = search needs

@@ -4,8 +4,6 @@ use Rattle.session.proofs.ProgramLaws.{untouched-count}
 use borrow.Author.Tests.{eq-eqb, ne-eqb}
 use Rattle.session.proofs.sound.is_untouched.Statement.{statement}
 use Rattle.session.proofs.sound.is_untouched.Tie as tie
-use Rattle.session.proofs.sound.is_untouched.Reads as reads
-use Rattle.session.proofs.sound.is_untouched.Lts as lts
 
 returns : tie.Need-returns
 returns c = simp (ne-eqb _ 0 (c .if1 .taken))

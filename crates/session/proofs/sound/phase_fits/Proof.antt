@@ -2,11 +2,6 @@
 use borrow.Author.Needs.{needs}
 use Rattle.session.proofs.sound.phase_fits.Statement.{statement}
 use Rattle.session.proofs.sound.phase_fits.Tie as tie
-use Rattle.session.proofs.sound.phase_fits.Reads as reads
-use Rattle.session.proofs.sound.phase_fits.Lts as lts
-use Rattle.session.proofs.sound.count_fits.Reads as count-fits-reads
-use Rattle.session.proofs.sound.is_untouched.Reads as is-untouched-reads
-use Rattle.session.proofs.sound.waiting_fits.Reads as waiting-fits-reads
 
 enum-told : tie.Need-enum-told
 enum-told c = search needs

@@ -2,8 +2,6 @@
 use borrow.Author.Needs.{needs}
 use Rattle.session.proofs.sound.question.Statement.{statement}
 use Rattle.session.proofs.sound.question.Tie as tie
-use Rattle.session.proofs.sound.question.Reads as reads
-use Rattle.session.proofs.sound.question.Lts as lts
 
 enum-told : tie.Need-enum-told
 enum-told c = search needs

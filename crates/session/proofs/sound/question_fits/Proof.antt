@@ -2,8 +2,6 @@
 use borrow.Author.Tests.{eq-eqb, ne-eqb}
 use Rattle.session.proofs.sound.question_fits.Statement.{statement}
 use Rattle.session.proofs.sound.question_fits.Tie as tie
-use Rattle.session.proofs.sound.question_fits.Reads as reads
-use Rattle.session.proofs.sound.question_fits.Lts as lts
 
 returns : tie.Need-returns
 returns c = simp (ne-eqb _ 0 (c .before .if1 .taken))

@@ -2,10 +2,6 @@
 use borrow.Author.Needs.{needs}
 use Rattle.session.proofs.sound.waiting_fits.Statement.{statement}
 use Rattle.session.proofs.sound.waiting_fits.Tie as tie
-use Rattle.session.proofs.sound.waiting_fits.Reads as reads
-use Rattle.session.proofs.sound.waiting_fits.Lts as lts
-use Rattle.session.proofs.sound.count_fits.Reads as count-fits-reads
-use Rattle.session.proofs.sound.question_fits.Reads as question-fits-reads
 
 question-fits-requires : tie.Need-question-fits-requires
 question-fits-requires c κs = search needs
