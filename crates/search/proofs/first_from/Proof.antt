@@ -8,7 +8,7 @@ use Rattle.atoms.specs.Sets.{Subset, size}
 use Rattle.atoms.proofs.SetLaws.{subset-le}
 use Rattle.search.specs.Search.{NoneBelow, opensIn}
 use Rattle.search.proofs.SearchLaws.{none-first, none-last, none-next}
-use Rattle.search.proofs.SizedLaws.{lowest-inside}
+use Rattle.search.proofs.LowestLaws.{lowest-inside}
 use Rattle.search.proofs.first_from.Statement.{statement}
 use Rattle.search.proofs.first_from.Tie as tie
 
