@@ -1,7 +1,8 @@
 // Rules closed over: passes over the rules at some places, the last of which adds nothing.
 ghost use mathlib.Core.Path.{_≡_};
 ghost use mathlib.Core.Bool.{_&&_, cond};
-ghost use Prim.Native.Nat.{_-_, _≤_};
+ghost use Prim.Native.Nat.{_-_, _<_, _≤_};
+ghost use lib.ListN.{getD};
 ghost use Rattle.atoms.specs.Sets.{disjoint, subset, union};
 ghost use Rattle.rules.specs.LevelByLevel.{passOver, settle};
 ghost use Rattle.evaluation.specs.Arrays.{Heads, rulesIn};
@@ -46,11 +47,11 @@ fn pass<'a>(
     let mut reached = set;
     let mut k = from;
     while k < to {
-        let head = heads[k];
         let all = positive[k];
         let none = negated[k];
         reached = fire(
-            AtomSet { bits: head },
+            heads,
+            k,
             AtomSet { bits: all },
             AtomSet { bits: none },
             below,
@@ -61,13 +62,22 @@ fn pass<'a>(
     reached
 }
 
-// One rule: its head is added where its body holds.
-fn fire(head: AtomSet, positive: AtomSet, negated: AtomSet, below: AtomSet, set: AtomSet) -> AtomSet
+// The rule at place k: its head is read and added where its body holds.
+fn fire(
+    heads: &[u64; 128],
+    k: usize,
+    positive: AtomSet,
+    negated: AtomSet,
+    below: AtomSet,
+    set: AtomSet,
+) -> AtomSet
+    requires { ⌜ k < 128 ⌝ }
     ensures { λ r.
-        ⌜ r .bits ≡ cond (disjoint (negated .bits) (below .bits) && subset (positive .bits) (set .bits)) (union (set .bits) (head .bits)) (set .bits) ⌝ }
+        ⌜ r .bits ≡ cond (disjoint (negated .bits) (below .bits) && subset (positive .bits) (set .bits)) (union (set .bits) (getD (now (heads .entry)) k 0)) (set .bits) ⌝ }
 {
     if body_holds(positive, negated, below, set) {
-        set.union(head)
+        let head = heads[k];
+        set.union(AtomSet { bits: head })
     } else {
         set
     }

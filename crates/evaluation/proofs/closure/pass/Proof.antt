@@ -23,12 +23,6 @@ abbrev μ-loop : tie.MeasureT-loop
 loop-holds : tie.Need-loop-holds Inv-loop μ-loop
 loop-holds c = (omega arith, (omega arith, refl))
 
-mul-head : tie.Need-mul-head Inv-loop μ-loop
-mul-head c = search needs
-
-element-copy-out-head : tie.Need-element-copy-out-head Inv-loop μ-loop
-element-copy-out-head c = search needs
-
 mul-all : tie.Need-mul-all Inv-loop μ-loop
 mul-all c = search needs
 
@@ -42,7 +36,7 @@ element-copy-out-none : tie.Need-element-copy-out-none Inv-loop μ-loop
 element-copy-out-none c = search needs
 
 fire-requires : tie.Need-fire-requires Inv-loop μ-loop
-fire-requires c κs = search needs
+fire-requires c κs = omega arith
 
 add-k : tie.Need-add-k Inv-loop μ-loop
 add-k c = search needs
@@ -52,13 +46,13 @@ loop-less c = omega arith
 
 loop-again : tie.Need-loop-again Inv-loop μ-loop
 loop-again c =
-    let a = c .before .before .before .before .before .before .args in
-    let l = c .before .before .before .before .before .loop in
-    let head = c .before .before .before .before .before .before .pre .1 .1 (l .k) (omega arith) in (
+    let a = c .before .before .before .before .before .args in
+    let l = c .before .before .before .before .loop in
+    let head = c .before .before .before .before .before .pre .1 .1 (l .k) (omega arith) in (
       omega arith,
       (
         omega arith,
-        pass-next-at (now (a .heads)) (now (a .positive)) (now (a .negated)) (l .k) (a .to) (c .before .before .before .before .loop-test .taken)
+        pass-next-at (now (a .heads)) (now (a .positive)) (now (a .negated)) (l .k) (a .to) (c .before .before .before .loop-test .taken)
             head (a .below .bits) (l .reached .bits) (c .fire .result .bits) _ (c .fire .ensures) (l .inv .1 .1),
       ),
     )
@@ -77,8 +71,6 @@ pass-spec =
     Inv-loop
     μ-loop
     loop-holds
-    mul-head
-    element-copy-out-head
     mul-all
     element-copy-out-all
     mul-none
