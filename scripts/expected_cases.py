@@ -207,6 +207,7 @@ def sizes_and_ties():
     yield from in_turn(disclosed + [access(16, 0, 3), access(16, 1, 2)], 16, ("16 if 0, 3; if 1, 2", 0))
     every = disclosed + [access(16, *range(16))]
     yield from in_turn(every, 16, ("16 if 0 to 15, 0 to 3 shown", 0xF), ("4 to 15 shown", 0xFFF0))
+    yield from two("16 if 0 to 15", every, 16, 0xFFFF)
 
 
 def from_fresh():

@@ -115,4 +115,5 @@ pub(crate) fn largest() {
         0x000f,
     );
     round(b"4 to 15 shown", &policy, 17, first, 0xfff0);
+    two(b"16 if 0 to 15", &policy, 17, 16, 0xffff);
 }
