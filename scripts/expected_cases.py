@@ -74,15 +74,19 @@ def opening(request):
     return f"opening {request}", said
 
 
-def round_in(name, length, records, session, shown):
-    """A round under the policy of `length` bytes that begins with these records."""
+def outcome(length, records, session, shown):
+    """What a round under the policy of `length` bytes that begins with these records says, and the next session."""
     said, after = answer(length, records), session
     if said == "accepted":
         turned_back = refusal(session)
         said = f"refused {turned_back}"
         if not turned_back:
             said, after = accepted_round(records, session, credentials(shown))
-    return name, f"{said}; {fields(after)}"
+    return f"{said}; {fields(after)}", after
+
+
+def round_in(name, length, records, session, shown):
+    return name, outcome(length, records, session, shown)[0]
 
 
 def under_a(name, session, shown):
@@ -166,6 +170,79 @@ def sessions():
     yield under_a("16 twice over and a breach", waiting(2, 5, 0, 2), 2)
 
 
+def access(head, *body):
+    return 1, head, set(body), set()
+
+
+def always(credential):
+    return 2, credential, set(), set()
+
+
+def in_turn(policy, request, *rounds):
+    """Rounds from a fresh session on, each a name and a shown set; each gets the session that the one before gave back."""
+    session = fresh(request)
+    for name, shown in rounds:
+        said, session = outcome(18 * len(policy), policy, session, shown)
+        yield name, said
+
+
+def two(name, policy, request, shown):
+    """Two rounds: nothing is shown, and then a set."""
+    return in_turn(policy, request, (name, 0), (name, shown))
+
+
+def services():
+    yield from two("40 if 3", [access(40, 3), always(3)], 40, 8)
+    yield from two("40 if 3, request 41", [access(40, 3), always(3)], 41, 8)
+    yield from two("62 if 9", [access(62, 9), always(9)], 62, 0x200)
+    yield from two("62 if 9, not disclosed", [access(62, 9)], 62, 0x200)
+
+
+def sizes_and_ties():
+    disclosed = [always(atom) for atom in range(16)]
+    tied = disclosed + [access(17, 4), access(16, 0, 1), access(16, 2, 3)]
+    yield from in_turn(tied, 16, ("16 if 0, 1; if 2, 3", 0))
+    declining = ("5 declined", 0), ("0 and 1 declined, 4 shown", 0x10), ("2 and 3 declined", 0)
+    yield from in_turn(tied + [access(16, 5)], 16, ("the same; if 5", 0), *declining)
+    yield from in_turn(disclosed + [access(16, 0, 3), access(16, 1, 2)], 16, ("16 if 0, 3; if 1, 2", 0))
+    every = disclosed + [access(16, *range(16))]
+    yield from in_turn(every, 16, ("16 if 0 to 15, 0 to 3 shown", 0xF), ("4 to 15 shown", 0xFFF0))
+    yield from two("16 if 0 to 15", every, 16, 0xFFFF)
+
+
+def from_fresh():
+    fifteen = access(16, 15)
+    yield from two("16 if 15", [fifteen, always(15)], 16, 0x8000)
+    policy = [access(16, 7, 12), access(16, 14), always(7), always(12), always(14)]
+    yield from in_turn(policy, 16, ("16 if 7, 12; if 14", 0), ("14 declined", 0), ("7 and 12 shown", 0x1080))
+    yield from services()
+    yield from two("61 records", [fifteen] * 60 + [always(15)], 16, 0x8000)
+    yield from two("128 records", [fifteen] * 127 + [always(15)], 16, 0x8000)
+    yield from sizes_and_ties()
+
+
+def replay(name, policy, request, shown):
+    """Opening, and then a round for each shown set: what the last of these says."""
+    said = opening(request)[1]
+    if is_service(request):
+        for _, said in in_turn(policy, request, *((name, some) for some in shown)):
+            pass
+    return name, said
+
+
+def replays():
+    shown = 0, 0, 3, 0
+    for n in range(5):
+        yield replay(f"list of {n or 'none'}", POLICY_A, 16, shown[:n])
+    yield replay("list of none, request 15", POLICY_A, 15, ())
+    yield replay("list of 3, request 15", POLICY_A, 15, shown[:3])
+    yield replay("list of 3, request 272", POLICY_A, 272, shown[:3])
+    broken = [(1, 17, set(), {24})]
+    for n in range(3):
+        yield replay(f"17 if not 24, list of {n or 'none'}", broken, 16, shown[:n])
+    yield replay("17 if not 24, request 15", broken, 15, shown[:2])
+
+
 def lines():
     for length in (0, 17, 18, 19, 2303, 2304, 2305, 2322):
         yield f"{length} bytes", answer(length, [ALWAYS_16] * 129)
@@ -184,6 +261,8 @@ def lines():
     yield "the same, cut short", answer(2303, records)
     yield "the same, too long", answer(2305, records)
     yield from sessions()
+    yield from from_fresh()
+    yield from replays()
 
 
 def main():

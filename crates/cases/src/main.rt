@@ -1,6 +1,8 @@
-// Document 01's run-only cases: prints the answer to each.
+// Document 01's run-only cases, more rounds and lists of rounds: prints the answer to each.
 mod policies;
 mod print;
+mod replays;
+mod rounds;
 mod sessions;
 mod singles;
 mod write;
@@ -18,4 +20,12 @@ fn main() {
     sessions::closed_sessions();
     sessions::order();
     sessions::breaches();
+    rounds::high_credentials();
+    rounds::services();
+    rounds::long_policies();
+    rounds::fewest();
+    rounds::smallest();
+    rounds::largest();
+    replays::policy_a();
+    replays::refused_policy();
 }

@@ -1,5 +1,6 @@
 // What is printed.
 use atoms::VIOLATION;
+use demands::Replayed;
 use libc::STDOUT_FILENO;
 use policy::Checked;
 use session::Opened;
@@ -88,6 +89,15 @@ pub(crate) fn outcome(outcome: Outcome) {
     let session = outcome.session;
     fields(session);
     text(b"\n");
+}
+
+// What a list of rounds comes to.
+pub(crate) fn replayed(state: Replayed) {
+    match state {
+        Replayed::Unopened(refusal) => opened(Opened::Refused(refusal)),
+        Replayed::Unplayed(session) => opened(Opened::Fresh(session)),
+        Replayed::Played(last) => outcome(last),
+    }
 }
 
 fn ended(ending: Ending) {

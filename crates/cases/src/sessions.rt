@@ -33,7 +33,7 @@ fn under_a(name: &[u8], session: Session, shown: u16) {
     round(name, &policy, session, shown);
 }
 
-fn fresh(request: u16, shown: u16, declined: u16, count: u8) -> Session {
+pub(crate) fn fresh(request: u16, shown: u16, declined: u16, count: u8) -> Session {
     Session {
         request,
         shown,

@@ -50,6 +50,51 @@ pub(crate) fn policy_a() -> [u8; 108]
     policy
 }
 
+// Record k: an access record for a head, with credentials that must hold.
+pub(crate) fn access(policy: &mut [u8; 2304], k: usize, head: u8, body: u16)
+    requires { ⌜ k < 128 ⌝ }
+{
+    let at = 18 * k;
+    policy[at] = ACCESS;
+    policy[at + 1] = head;
+    policy[at + 2] = (body % 256) as u8;
+    policy[at + 3] = (body / 256) as u8;
+}
+
+// Record k: a credential is disclosed always.
+pub(crate) fn always(policy: &mut [u8; 2304], k: usize, credential: u8)
+    requires { ⌜ k < 128 ⌝ }
+{
+    let at = 18 * k;
+    policy[at] = DISCLOSURE;
+    policy[at + 1] = credential;
+}
+
+// 16 if 15, n times; disclosure 15 always.
+pub(crate) fn copies(n: usize) -> [u8; 2304]
+    requires { ⌜ n < 128 ⌝ }
+{
+    let mut policy = [0u8; 2304];
+    let mut k: usize = 0;
+    while k < n {
+        access(&mut policy, k, FIRST_DERIVED, 0x8000);
+        k += 1;
+    }
+    always(&mut policy, n, 15);
+    policy
+}
+
+// Disclosure of 0 to 15 always: records 0 to 15.
+pub(crate) fn disclosed() -> [u8; 2304] {
+    let mut policy = [0u8; 2304];
+    let mut k: u8 = 0;
+    while k < 16 {
+        always(&mut policy, k as usize, k);
+        k += 1;
+    }
+    policy
+}
+
 // A record of a kind.
 pub(crate) fn record(kind: u8, head: u8, positive: AtomSet, negated: AtomSet) -> [u8; 18]
     ensures { λ r. ⌜ length r ≡ 18 ⌝ }
