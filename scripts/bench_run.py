@@ -6,12 +6,11 @@
 
 The lines are document 01's own; the script stops unless its definitions in rounds.py give them too.
 """
-import pathlib
 import sys
 
 from rounds import EMPTY, POLICY_A, Session, accepted_round, credentials, number
+from stored import stored
 
-ROOT = pathlib.Path(__file__).resolve().parent.parent
 INPUT = bytes.fromhex("10 00 00 00 00 00 03 00")
 LINES = """\
 round 1 got 0000 ask 0004
@@ -38,16 +37,10 @@ def main():
     if "".join(lines()) != LINES:
         sys.exit("the definitions give other lines than document 01")
     policy = b"".join(encoded(*record) for record in POLICY_A)
-    status = 0
-    for name, made in (("data/policy.bin", policy), ("stdin", INPUT), ("stdout", LINES.encode())):
-        path = ROOT / "crates/bench" / name
-        if "--check" not in sys.argv[1:]:
-            path.write_bytes(made)
-        else:
-            same = path.exists() and path.read_bytes() == made
-            print(f"crates/bench/{name}", "is the same" if same else "differs")
-            status = status if same else 1
-    return status
+    return stored(
+        (f"crates/bench/{name}", made)
+        for name, made in (("data/policy.bin", policy), ("stdin", INPUT), ("stdout", LINES.encode()))
+    )
 
 
 sys.exit(main())

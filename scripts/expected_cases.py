@@ -1,18 +1,17 @@
 #!/usr/bin/env python3
 """The expected output of the program `cases`, from document 01 and not from our code.
 
-    scripts/expected_cases.py            print it
-    scripts/expected_cases.py --check    say whether crates/cases/stdout has it
+    scripts/expected_cases.py            write crates/cases/stdout
+    scripts/expected_cases.py --check    say whether that file is what the script makes
 
 Only the inputs, the table of one-record policies, are read from crates/cases/src/singles.rt. Rounds are worked out by rounds.py.
 """
-import pathlib
 import re
 import sys
 
 from rounds import POLICY_A, Session, accepted_round, credentials, is_service, number, refusal
+from stored import ROOT, stored
 
-ROOT = pathlib.Path(__file__).resolve().parent.parent
 ALWAYS_16 = (1, 16, set(), set())
 
 
@@ -267,12 +266,7 @@ def lines():
 
 def main():
     text = "".join(f"{name}: {said}\n" for name, said in lines())
-    if "--check" not in sys.argv[1:]:
-        sys.stdout.write(text)
-        return 0
-    same = text == (ROOT / "crates/cases/stdout").read_text()
-    print("the same" if same else "crates/cases/stdout differs")
-    return 0 if same else 1
+    return stored([("crates/cases/stdout", text.encode())])
 
 
 sys.exit(main())

@@ -14,12 +14,12 @@ stdin, for each vector: 2 bytes of credentials, little-endian; 1 byte, the numbe
 stdout: a line for each vector, as the program `vectors` prints it.
 """
 import json
-import pathlib
 import random
 import subprocess
 import sys
 
-ROOT = pathlib.Path(__file__).resolve().parent.parent
+from stored import stored
+
 SEED = 1
 VECTORS = 600
 LEAST = 5  # a shape that fewer vectors have is too rare to tell anything
@@ -358,16 +358,7 @@ def main():
         print(f"{count:4} of {VECTORS}: {shape}", file=sys.stderr)
         if count < LEAST:
             sys.exit(f"too few of them: {shape}")
-    status = 0
-    for name, made in (("stdin", given), ("stdout", expected.encode())):
-        path = ROOT / "crates/vectors" / name
-        if "--check" not in sys.argv[1:]:
-            path.write_bytes(made)
-        else:
-            same = path.exists() and path.read_bytes() == made
-            print(f"crates/vectors/{name}", "is the same" if same else "differs")
-            status = status if same else 1
-    return status
+    return stored((f"crates/vectors/{name}", made) for name, made in (("stdin", given), ("stdout", expected.encode())))
 
 
 sys.exit(main())
