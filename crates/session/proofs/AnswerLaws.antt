@@ -66,10 +66,6 @@ module _ (pol : Policy) (low : Every Low (pol .disclosure)) (r P N : ℕ) where
       a : Askable (pol .disclosure) k
       a = go (disclosable-adds (pol .disclosure) P k (h .0))
 
-  pub obtainable-low : (k : ℕ) → Member k (obtainable pol P N) → k < 16
-  unfolding D
-  obtainable-low k m = D-obtainable k m .below-16
-
   way-asks : (q : Question) → Way pol r P N q → Subset (q .asks) D
   unfolding D
   way-asks q w k i = difference-iff (difference E P) N k .1 (difference-iff E P k .1 (w .disclosed k i, w .unshown k i), w .undeclined k i)
