@@ -1,33 +1,47 @@
-// The gate for C (include/gate.h): a policy is bytes, a session a record of ten bytes that the caller lends, an answer a number.
+// The gate for C (include/gate.h): a policy is bytes, a session is ten bytes that the caller lends, and an answer is a number.
+ghost use mathlib.Core.Path.{_≡_};
+ghost use Rattle.policy.specs.PolicyTest.{policyRefusal};
+ghost use Rattle.model.specs.Answers.{disclosableAnswer, modelAnswer};
+ghost use Rattle.capi.specs.Exports.{checkReply, noSessionReply, openCall, roundCall, setAfter, setReply};
+use model::Disclosed;
+use model::Modelled;
+use packed::RECORD_BYTES;
+use packed::Unpacked;
+use packed::pack;
+use packed::unpack;
 use policy::Checked;
 use policy::check;
-use record::RECORD_BYTES;
-use record::Held;
+use reply::DONE;
 use session::Opened;
 use session::Session;
 use session::answer::Answer;
-use model::Disclosed;
-use model::Modelled;
 
-mod record;
+mod packed;
 mod reply;
 
 // The policy's test.
 #[no_mangle]
-pub extern "C" fn gate_check(policy: &[u8]) -> u32 {
+pub extern "C" fn gate_check(policy: &[u8]) -> u32
+    ensures answer { λ r. ⌜ r ≡ checkReply (now (policy .entry)) ⌝ }
+    ensures unchanged { λ _. ⌜ now (policy .exit) ≡ now (policy .entry) ⌝ }
+{
     match check(policy) {
-        Checked::Accepted => 0,
+        Checked::Accepted => DONE,
         Checked::Refused(refusal) => reply::of_policy(refusal),
     }
 }
 
 // The model, written where the policy is accepted.
 #[no_mangle]
-pub extern "C" fn gate_model(policy: &[u8], credentials: u16, set: &mut u64) -> u32 {
+pub extern "C" fn gate_model(policy: &[u8], credentials: u16, set: &mut u64) -> u32
+    ensures answer { λ r. ⌜ r ≡ setReply (modelAnswer (now (policy .entry)) credentials) ⌝ }
+    ensures written { λ _. ⌜ now (set .exit) ≡ setAfter (modelAnswer (now (policy .entry)) credentials) (now (set .entry)) ⌝ }
+    ensures unchanged { λ _. ⌜ now (policy .exit) ≡ now (policy .entry) ⌝ }
+{
     match model::model(policy, credentials) {
         Modelled::Model(atoms) => {
             *set = atoms.bits;
-            0
+            DONE
         }
         Modelled::Refused(refusal) => reply::of_policy(refusal),
     }
@@ -35,33 +49,44 @@ pub extern "C" fn gate_model(policy: &[u8], credentials: u16, set: &mut u64) -> 
 
 // The disclosable set, written where the policy is accepted.
 #[no_mangle]
-pub extern "C" fn gate_disclosable(policy: &[u8], shown: u16, set: &mut u16) -> u32 {
+pub extern "C" fn gate_disclosable(policy: &[u8], shown: u16, set: &mut u16) -> u32
+    ensures answer { λ r. ⌜ r ≡ setReply (disclosableAnswer (now (policy .entry)) shown) ⌝ }
+    ensures written { λ _. ⌜ now (set .exit) ≡ setAfter (disclosableAnswer (now (policy .entry)) shown) (now (set .entry)) ⌝ }
+    ensures unchanged { λ _. ⌜ now (policy .exit) ≡ now (policy .entry) ⌝ }
+{
     match model::disclosable(policy, shown) {
         Disclosed::Set(credentials) => {
             *set = credentials;
-            0
+            DONE
         }
         Disclosed::Refused(refusal) => reply::of_policy(refusal),
     }
 }
 
-// A fresh session, written where the request is not refused.
+// Opening; a fresh session is written unless the request is refused.
 #[no_mangle]
-pub extern "C" fn gate_open(request: u16, session: &mut [u8; RECORD_BYTES]) -> u32 {
+pub extern "C" fn gate_open(request: u16, session: &mut [u8; RECORD_BYTES]) -> u32
+    ensures answer { λ r. ⌜ r ≡ openCall request (now (session .entry)) .reply ⌝ }
+    ensures written { λ _. ⌜ now (session .exit) ≡ openCall request (now (session .entry)) .leaves ⌝ }
+{
     match Session::open(request) {
         Opened::Fresh(fresh) => {
-            record::write(fresh, session);
-            0
+            *session = pack(fresh);
+            DONE
         }
         Opened::Refused(refusal) => reply::of_refusal(refusal),
     }
 }
 
-// A round; the next session is written where it is not refused.
+// A round; the next session is written unless the round is refused.
 #[no_mangle]
-pub extern "C" fn gate_round(policy: &[u8], session: &mut [u8; RECORD_BYTES], shown: u16) -> u32 {
-    let held = record::read(session);
-    let Held::Session(before) = held else {
+pub extern "C" fn gate_round(policy: &[u8], session: &mut [u8; RECORD_BYTES], shown: u16) -> u32
+    ensures answer { λ r. ⌜ r ≡ roundCall (now (policy .entry)) (now (session .entry)) shown .reply ⌝ }
+    ensures written { λ _. ⌜ now (session .exit) ≡ roundCall (now (policy .entry)) (now (session .entry)) shown .leaves ⌝ }
+    ensures unchanged { λ _. ⌜ now (policy .exit) ≡ now (policy .entry) ⌝ }
+{
+    let held = unpack(session);
+    let Unpacked::Session(before) = held else {
         return no_session(policy);
     };
     let outcome = before.round(policy, shown);
@@ -69,7 +94,7 @@ pub extern "C" fn gate_round(policy: &[u8], session: &mut [u8; RECORD_BYTES], sh
     let after = outcome.session;
     match answer {
         Answer::Ends(ending) => {
-            record::write(after, session);
+            *session = pack(after);
             reply::of_ending(ending)
         }
         Answer::Refused(refusal) => reply::of_refusal(refusal),
@@ -77,7 +102,9 @@ pub extern "C" fn gate_round(policy: &[u8], session: &mut [u8; RECORD_BYTES], sh
 }
 
 // What is no session is refused 8, after the policy's test.
-fn no_session(policy: &[u8]) -> u32 {
+fn no_session(policy: &[u8]) -> u32
+    ensures { λ r. ⌜ r ≡ noSessionReply (policyRefusal (now (policy .entry))) ⌝ }
+{
     match check(policy) {
         Checked::Accepted => 8,
         Checked::Refused(refusal) => reply::of_policy(refusal),

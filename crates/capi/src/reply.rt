@@ -1,28 +1,43 @@
+// Answers as numbers (specs/Replies says which).
 ghost use mathlib.Core.Path.{_≡_};
 ghost use Prim.Native.Nat.{_<_};
-// Answers as numbers.
+ghost use Rattle.policy.specs.Types as policyTypes;
+ghost use Rattle.session.specs.Types.{endingOf, refusalOf};
+ghost use Rattle.capi.specs.Replies.{endingReply, policyReply, refusalReply};
 use session::answer::Ending;
 use session::refusal::Refusal;
 
+// Nothing is refused, and there is no more to say.
+pub(crate) const DONE: u32 = 0;
+
 const GRANT: u32 = 1;
+
 const DENY: u32 = 2;
+
 const ASK: u32 = 3;
 
-// The number, and the record number above it.
-pub(crate) fn of_policy(refusal: policy::refusal::Refusal) -> u32 {
+// A policy's refusal: its number, and above it the record's.
+pub(crate) fn of_policy(refusal: policy::refusal::Refusal) -> u32
+    ensures { λ r. ⌜ r ≡ policyReply (policyTypes.refusalOf refusal) ⌝ }
+{
     wide(refusal.number()) + 256 * wide(refusal.record())
 }
 
-pub(crate) fn of_refusal(refusal: Refusal) -> u32 {
+pub(crate) fn of_refusal(refusal: Refusal) -> u32
+    ensures { λ r. ⌜ r ≡ refusalReply (refusalOf refusal) ⌝ }
+{
     match refusal {
-        Refusal::Policy(of) => of_policy(of),
-        Refusal::Request => 7,
-        Refusal::Unsound => 8,
-        Refusal::Closed => 9,
+        Refusal::Policy(refused) => of_policy(refused),
+        Refusal::Request => wide(refusal.number()),
+        Refusal::Unsound => wide(refusal.number()),
+        Refusal::Closed => wide(refusal.number()),
     }
 }
 
-pub(crate) fn of_ending(ending: Ending) -> u32 {
+// How a round ended, and above it the asked set.
+pub(crate) fn of_ending(ending: Ending) -> u32
+    ensures { λ r. ⌜ r ≡ endingReply (endingOf ending) ⌝ }
+{
     match ending {
         Ending::Grant => 256 * GRANT,
         Ending::Deny => 256 * DENY,
@@ -30,6 +45,7 @@ pub(crate) fn of_ending(ending: Ending) -> u32 {
     }
 }
 
+// A byte, widened.
 fn wide(byte: u8) -> u32
     ensures { λ r. ⌜ (r ≡ byte) × (r < 256) ⌝ }
 {

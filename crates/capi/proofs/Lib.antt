@@ -1,0 +1,3 @@
+-- The laws of replies, packed sessions and calls.
+pub mod CallLaws
+pub mod PackLaws

@@ -1,0 +1,49 @@
+-- Answers as numbers: byte 0 a refusal's number, or 0; byte 1 the record's number, or how a round ended; above them the asked set. Assumes nothing.
+use mathlib.Core.Path.{_≡_}
+use mathlib.Core.Option.{Option, none, some}
+use Prim.Native.Nat.{_%_, _*_, _+_, _/_, ℕ}
+use Rattle.policy.specs.WrittenForm as W
+use Rattle.session.specs.Endings.{Ending, ask, deny, grant}
+use Rattle.session.specs.Refusals.{Refusal, number, ofPolicy}
+use Rattle.session.specs.Rounds.{Answer, ends, refuse}
+
+-- nothing is refused, and there is no more to say
+abbrev pub done : ℕ
+done = 0
+
+-- "By the policy's writer, with a record number counted from 0"
+abbrev pub policyReply : W.Refusal → ℕ
+policyReply f = W.refusalNumber f + 256 * W.recordNumber f
+
+-- of a test
+abbrev pub testReply : Option W.Refusal → ℕ
+testReply none = done
+testReply (some f) = policyReply f
+
+abbrev pub refusalReply : Refusal → ℕ
+refusalReply (ofPolicy f) = policyReply f
+refusalReply (number n) = n
+
+-- 1 grant, 2 deny, 3 ask
+abbrev pub endingReply : Ending → ℕ
+endingReply grant = 256 * 1
+endingReply deny = 256 * 2
+endingReply (ask q) = 256 * 3 + 65536 * q .asks
+
+abbrev pub answerReply : Answer → ℕ
+answerReply (ends e) = endingReply e
+answerReply (refuse f) = refusalReply f
+
+-- ---- what include/gate.h reads of a reply
+
+-- GATE_REFUSAL
+abbrev pub refusalIn : ℕ → ℕ
+refusalIn r = r % 256
+
+-- GATE_RECORD and GATE_ENDING
+abbrev pub detailIn : ℕ → ℕ
+detailIn r = r / 256 % 256
+
+-- GATE_ASKED
+abbrev pub askedIn : ℕ → ℕ
+askedIn r = r / 65536
