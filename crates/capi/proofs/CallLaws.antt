@@ -7,7 +7,7 @@ use Rattle.policy.specs.PolicyTest.{policyRefusal}
 use Rattle.policy.specs.WrittenForm as W
 use Rattle.session.specs.Endings.{Ending}
 use Rattle.session.specs.Refusals.{Refusal}
-use Rattle.session.specs.Rounds.{Answer, Opened, Outcome, ends, opening, refuse, round}
+use Rattle.session.specs.Rounds.{Opened, Outcome, ends, opening, refuse, round}
 use Rattle.session.specs.Sessions.{Session}
 use Rattle.session.specs.Types.{moveOf}
 use Rattle.capi.specs.Exports.{checkReply, leftBy, noSessionReply, openCall, openedCall, outcomeCall, playedCall, roundCall}
@@ -23,7 +23,7 @@ unfolding openCall
 open-gives r before o is = ap (openedCall before) is
 
 module _ (policy before : List ℕ) (p : ℕ) where
-  played : (o : Option Session) → o ≡ unpacked before → playedCall policy before p o ≡ roundCall policy before p
+  pub played : (o : Option Session) → o ≡ unpacked before → playedCall policy before p o ≡ roundCall policy before p
   unfolding roundCall
   played o is = ap (playedCall policy before p) is
 

@@ -1,14 +1,15 @@
 -- What each exported function replies and leaves in the memory that it is lent. Assumes nothing.
 use mathlib.Core.List.{List, [], _∷_}
-use mathlib.Core.Option.{Option, none, orElse, some}
+use mathlib.Core.Option.{Option, none, some}
 use Prim.Native.Nat.{ℕ}
 use Rattle.policy.specs.PolicyTest.{policyRefusal}
 use Rattle.policy.specs.WrittenForm as W
 use Rattle.model.specs.Answers as A
 use Rattle.session.specs.Refusals.{number}
-use Rattle.session.specs.Rounds.{Answer, Opened, Outcome, begins, ends, opening, refuse, refuses, round}
+use Rattle.session.specs.Rounds.{Answer, Opened, Outcome, Turn, begins, ends, opening, refuse, refuses, round}
 use Rattle.session.specs.Sessions.{Session}
 use Rattle.session.specs.Types.{moveOf}
+use Rattle.demands.specs.Promises.{Visit}
 use Rattle.capi.specs.Packed.{packed, unpacked}
 use Rattle.capi.specs.Replies.{answerReply, done, policyReply, refusalReply, testReply}
 
@@ -61,8 +62,13 @@ playedCall policy before p (some s) = outcomeCall before (round policy s (moveOf
 unfoldable pub roundCall : List ℕ → List ℕ → ℕ → Call
 roundCall policy before p = playedCall policy before p (unpacked before)
 
--- ---- calls one after another on one record, each with the policy that it is lent: each gets the bytes that the one before left
+-- ---- calls of gate_round one after another on one record, each with the policy that it is lent
 
-unfoldable pub callsFrom : List ℕ → List ℕ → List ℕ → List Call
-callsFrom policy before [] = []
-callsFrom policy before (p ∷ ps) = let c = roundCall policy before p in c ∷ callsFrom policy (c .leaves) ps
+-- each gets the bytes that the one before left
+unfoldable pub callsFrom : List ℕ → List Visit → List Call
+callsFrom before [] = []
+callsFrom before (v ∷ vs) = let c = roundCall (v .policy) before (v .takes .shows) in c ∷ callsFrom (c .leaves) vs
+
+-- what a round comes to as such a call
+abbrev pub callOf : Turn → Call
+callOf t = record { reply = answerReply (t .gives .answer); leaves = packed (t .gives .session) }

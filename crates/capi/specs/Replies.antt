@@ -1,5 +1,4 @@
 -- Answers as numbers: byte 0 a refusal's number, or 0; byte 1 the record's number, or how a round ended; above them the asked set. Assumes nothing.
-use mathlib.Core.Path.{_≡_}
 use mathlib.Core.Option.{Option, none, some}
 use Prim.Native.Nat.{_%_, _*_, _+_, _/_, ℕ}
 use Rattle.policy.specs.WrittenForm as W

@@ -1,7 +1,7 @@
 -- `capi::gate_round` meets its contract: no session, an ending, or a refusal. Assumes nothing.
 use mathlib.Core.Path.{_∙_, ap, refl, sym}
 use denote.Ref.{now}
-use Rattle.session.specs.Types.{answerOf, outcomeOf, sessionOf}
+use Rattle.session.specs.Types.{answerOf, outcomeOf}
 use Rattle.capi.specs.Types.{unpackedOf}
 use Rattle.capi.proofs.CallLaws.{ends-gives, none-gives, refusal-gives}
 use borrow.Author.Needs.{needs}
@@ -51,7 +51,7 @@ returns-2 c =
     let k = round .before .before .before .before in
     let a = k .before .before .before .args in
     let is = ends-gives (now (a .policy)) (now (a .session)) (a .shown) _ (sym (ap unpackedOf (round .before .before .held .given .1)) ∙ k .unpack .ensures)
-        (outcomeOf (round .round .result)) (round .round .ensures .0) _ (ap answerOf (c .before .before .before .answer .given .1)) _ (c .of-ending .ensures) _ (c .before .pack .ensures) in
+    (outcomeOf (round .round .result)) (round .round .ensures .0) _ (ap answerOf (c .before .before .before .answer .given .1)) _ (c .of-ending .ensures) _ (c .before .pack .ensures) in
     (is .0, (is .1, refl))
 
 returns-3 : tie.Need-returns-3
@@ -60,7 +60,7 @@ returns-3 c =
     let k = round .before .before .before .before in
     let a = k .before .before .before .args in
     let is = refusal-gives (now (a .policy)) (now (a .session)) (a .shown) _ (sym (ap unpackedOf (round .before .before .held .given .1)) ∙ k .unpack .ensures)
-        (outcomeOf (round .round .result)) (round .round .ensures .0) _ (ap answerOf (c .before .before .answer2 .given .1)) _ (c .of-refusal .ensures) in
+    (outcomeOf (round .round .result)) (round .round .ensures .0) _ (ap answerOf (c .before .before .answer2 .given .1)) _ (c .of-refusal .ensures) in
     (is .0, (is .1, refl))
 
 pub gate-round-spec : {M : Type 1} → statement M
