@@ -78,18 +78,22 @@ unpacks-packed s =
     sym (unpacks-some (packed s) _ refl (s .phase) (sym (tagged (s .phase))) (s .request) (s .shown) (s .declined) (sym (halves (s .request)))
     (sym (halves (s .shown))) (sym (halves (s .declined))))
 
+-- a 16-bit number's bytes, before others
+halves-fit : (n : ℕ) → n < 2 ^ 16 → (bytes : List ℕ) → Bytes bytes → Bytes (low n ∷ high n ∷ bytes)
+halves-fit n l bytes b = (omega arith, (omega (arith, l), b))
+
+tag-lt : (f : Phase) → tag f < 256
+tag-lt fresh = omega arith
+tag-lt (waiting q) = omega arith
+tag-lt (closed granted) = omega arith
+tag-lt (closed denied) = omega arith
+
 pub packed-fits : (s : Session) → Packable s → Bytes (packed s) × (length (packed s) ≡ 10)
 unfolding packed
-packed-fits s h = (
-  (omega arith, (omega (arith, h .request), (omega arith, (omega (arith, h .sets .shown), (omega arith, (omega (arith, h .sets .declined), (h .count, (tag-lt (s .phase), (omega arith, (omega (arith, h .sets .asks), tt)))))))))),
-  refl,
-)
-  where
-    tag-lt : (f : Phase) → tag f < 256
-    tag-lt fresh = omega arith
-    tag-lt (waiting q) = omega arith
-    tag-lt (closed granted) = omega arith
-    tag-lt (closed denied) = omega arith
+packed-fits s h =
+    let last = (h .count, (tag-lt (s .phase), halves-fit (question (s .phase) .asks) (h .sets .asks) [] tt)) in
+    let sets = halves-fit (s .shown) (h .sets .shown) _ (halves-fit (s .declined) (h .sets .declined) _ last) in
+    (halves-fit (s .request) (h .request) _ sets, refl)
 
 -- ---- unpacked, then packed
 
