@@ -90,10 +90,13 @@ tag-lt (closed denied) = omega arith
 
 pub packed-fits : (s : Session) → Packable s → Bytes (packed s) × (length (packed s) ≡ 10)
 unfolding packed
-packed-fits s h =
-    let last = (h .count, (tag-lt (s .phase), halves-fit (question (s .phase) .asks) (h .sets .asks) [] tt)) in
-    let sets = halves-fit (s .shown) (h .sets .shown) _ (halves-fit (s .declined) (h .sets .declined) _ last) in
-    (halves-fit (s .request) (h .request) _ sets, refl)
+packed-fits s h = (
+  halves-fit (s .request) (h .request) _
+      (halves-fit (s .shown) (h .sets .shown) _
+      (halves-fit (s .declined) (h .sets .declined) _
+      (h .count, (tag-lt (s .phase), halves-fit (question (s .phase) .asks) (h .sets .asks) [] tt)))),
+  refl,
+)
 
 -- ---- unpacked, then packed
 

@@ -105,7 +105,8 @@ pub extern "C" fn gate_round(policy: &[u8], session: &mut [u8; RECORD_BYTES], sh
 fn no_session(policy: &[u8]) -> u32
     ensures { λ r. ⌜ r ≡ noSessionReply (policyRefusal (now (policy .entry))) ⌝ }
 {
-    match check(policy) {
+    let checked = check(policy);
+    match checked {
         Checked::Accepted => 8,
         Checked::Refused(refusal) => reply::of_policy(refusal),
     }
