@@ -90,13 +90,15 @@ tag-lt (closed denied) = omega arith
 
 pub packed-fits : (s : Session) → Packable s → Bytes (packed s) × (length (packed s) ≡ 10)
 unfolding packed
-packed-fits s h = (
-  halves-fit (s .request) (h .request) _
-      (halves-fit (s .shown) (h .sets .shown) _
-      (halves-fit (s .declined) (h .sets .declined) _
-      (h .count, (tag-lt (s .phase), halves-fit (question (s .phase) .asks) (h .sets .asks) [] tt)))),
-  refl,
-)
+packed-fits s h =
+    let q = question (s .phase) .asks in
+    let last = s .count ∷ tag (s .phase) ∷ low q ∷ high q ∷ [] in
+    let last-fit : Bytes last = (h .count, (tag-lt (s .phase), halves-fit q (h .sets .asks) [] tt)) in
+    let declined = low (s .declined) ∷ high (s .declined) ∷ last in
+    let declined-fit : Bytes declined = halves-fit (s .declined) (h .sets .declined) last last-fit in
+    let shown = low (s .shown) ∷ high (s .shown) ∷ declined in
+    let shown-fit : Bytes shown = halves-fit (s .shown) (h .sets .shown) declined declined-fit in
+    (halves-fit (s .request) (h .request) shown shown-fit, refl)
 
 -- ---- unpacked, then packed
 

@@ -12,8 +12,8 @@ check-requires c κs = search needs
 enum-told : tie.Need-enum-told
 enum-told c = search needs
 
-enum-known-refusal : tie.Need-enum-known-refusal
-enum-known-refusal c = search needs
+enum-known-checked : tie.Need-enum-known-checked
+enum-known-checked c = search needs
 
 of-policy-requires : tie.Need-of-policy-requires
 of-policy-requires c κs = search needs
@@ -22,9 +22,9 @@ returns : tie.Need-returns
 returns c = ap noSessionReply (sym (ap checkedOf (c .enum-told .given .1)) ∙ c .before .before .check .ensures .0)
 
 returns-2 : tie.Need-returns-2
-returns-2 c = c .of-policy .ensures ∙ ap noSessionReply (sym (ap checkedOf (c .before .before .refusal .given .1)) ∙ c .before .before .before .before .check .ensures .0)
+returns-2 c = c .of-policy .ensures ∙ ap noSessionReply (sym (ap checkedOf (c .before .before .checked .given .1)) ∙ c .before .before .before .before .check .ensures .0)
 
 pub no-session-spec : {M : Type 1} → statement M
 no-session-spec =
     tie.close
-    (tie.spec check-requires enum-told enum-known-refusal of-policy-requires returns returns-2)
+    (tie.spec check-requires enum-told enum-known-checked of-policy-requires returns returns-2)
