@@ -21,7 +21,7 @@ COMMENTS = {".antt": r"^ *--.*$", ".rt": r"^ *//.*$"}
 
 
 def text_of(name):
-    """A file's text without its comments; of a file of bytes that are no text, and of a directory, nothing."""
+    """A file's text without its comments, or None where there is no such file."""
     for path in (ROOT / "crates" / name, ROOT / name):
         if path.is_file():
             return re.sub(COMMENTS.get(path.suffix, "(?!)"), "", path.read_text(errors="replace"), flags=re.M)
@@ -52,10 +52,9 @@ def plain(text):
 
 def quoted(page):
     """The headings and first columns from document 01's title on."""
-    lines = page.split("\n")
-    for at, line in enumerate(lines[lines.index(f"## {TITLE}") :], lines.index(f"## {TITLE}")):
-        is_head = lines[at + 1 : at + 2] == ["|---|---|---|"]
-        if line.startswith("#") or (line.startswith("| ") and not is_head):
+    lines = "".join(page.partition(f"## {TITLE}\n")[1:]).split("\n")
+    for line, below in zip(lines, lines[1:]):
+        if line.startswith("#") or (line.startswith("| ") and below != "|---|---|---|"):
             yield line.split(" | ")[0].lstrip("| ")
 
 
