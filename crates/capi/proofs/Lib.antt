@@ -4,4 +4,5 @@ pub mod PackLaws
 pub mod RecordLaws
 pub mod ReplyLaws
 pub mod SessionLaws
+pub mod ExamplesProof
 pub mod TheoremsProof

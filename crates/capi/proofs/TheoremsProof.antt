@@ -1,5 +1,6 @@
 -- The theorems of the C interface. Assumes nothing.
 use Rattle.capi.specs.Theorems.{Theorems}
+use Rattle.capi.proofs.ExamplesProof.{examples}
 use Rattle.capi.proofs.RecordLaws.{packed-fits, stands}
 use Rattle.capi.proofs.ReplyLaws as replies
 use Rattle.capi.proofs.SessionLaws as sessions
@@ -17,4 +18,5 @@ theorems = record {
   untested = sessions.untested;
   calls = sessions.calls;
   demand3 = sessions.demand3;
+  examples = examples;
 }

@@ -3,4 +3,5 @@ pub mod Packed
 pub mod Replies
 pub mod Exports
 pub mod Types
+pub mod Examples
 pub mod Theorems

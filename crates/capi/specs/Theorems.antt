@@ -14,6 +14,7 @@ use Rattle.session.specs.Rounds.{Answer, Move, Turn, ends, refuse, round}
 use Rattle.session.specs.Sessions.{Service, Session, opened}
 use Rattle.demands.specs.Demand3.{Demand3}
 use Rattle.demands.specs.Promises.{Visit, runVisits}
+use Rattle.capi.specs.Examples.{Examples}
 use Rattle.capi.specs.Exports.{callOf, callsFrom, checkReply, openCall, roundCall}
 use Rattle.capi.specs.Packed.{Packable, packed, unpacked}
 use Rattle.capi.specs.Replies.{answerReply, askedIn, detailIn, done, refusalIn}
@@ -67,3 +68,5 @@ pub record Theorems : Type 0 where
   -- any list of calls, with policies changed between them, is the list of rounds that document 01 defines
   pub calls : (s : Session) (vs : List Visit) → callsFrom (packed s) vs ≡ map callOf (runVisits s vs)
   pub demand3 : CallsMeetDemand3
+  -- the layout and the numbers once more, on document 01's cases
+  pub examples : Examples
