@@ -14,7 +14,7 @@ static const uint8_t policy[6 * 18] = {
 
 int main(void) {
     const uint16_t shown[] = {0x0000, 0x0000, 0x0003};
-    gate_session session;
+    gate_session session = {{0}};
     uint32_t reply = gate_open(16, &session);
     for (int i = 0; i < 3 && !GATE_REFUSAL(reply); i++) {
         reply = gate_round(policy, sizeof policy, &session, shown[i]);

@@ -1,11 +1,14 @@
-/* The station gate for C. Link target/staticlib/libcapi.a, which `rt staticlib capi` makes.
+/* The station gate for C. Link target/staticlib/libcapi.a, which `rt staticlib capi` makes for x86-64; beside it a program
+ * needs only memcpy and memset.
  *
  * Each function's reply, and what it leaves in the memory that it is lent, is proved for every input (crates/capi,
  * contracts in src/lib.rt, theorems in specs/Theorems.antt): it returns, never traps, and reads and writes nothing else.
- * A policy is never written. No function allocates, keeps a pointer or has a state of its own.
+ * A policy is never written. No function allocates, keeps a pointer or has a state of its own. docs/PERFORMANCE.md has
+ * the stack that a round takes.
  *
- * The caller owes what C cannot show: pointers that are not null and valid for the bytes that they stand for, aligned for
- * their type, and no overlap of what one call writes with anything else that it is given. */
+ * The caller owes what C cannot show: pointers that are not null (also where a length is 0), aligned for their type, to
+ * memory that is there and has been written before; no overlap of what one call writes with anything else that it is
+ * given; and that nobody else writes that memory while the call runs, or reads what it writes. */
 #ifndef GATE_H
 #define GATE_H
 
@@ -16,7 +19,9 @@
 extern "C" {
 #endif
 
-/* A session: ten bytes, lent by the caller.
+/* A set of credentials is a number of 16 bits, bit k for credential k.
+ *
+ * A session is ten bytes, lent by the caller:
  *
  *   0, 1   request                        6      count of rounds
  *   2, 3   shown set                      7      phase: 0 fresh, 1 waiting, 2 closed with grant, 3 closed with deny
@@ -28,16 +33,16 @@ typedef struct {
     uint8_t bytes[10];
 } gate_session;
 
-/* A reply is a number.
+/* A reply is a number. Bytes that are not named here are 0.
  *
- *   0                   nothing is refused, and there is no more to say
+ *   0                   nothing is refused, and there is no more to say; never of a round
  *   byte 0 is not 0     refused with that number, 1 to 9; with 1 to 6 byte 1 is the number of the policy's record
- *   byte 0 is 0         a round, not refused: byte 1 is 1 for grant, 2 for deny, 3 for a question, and above it is the set
- *                       asked for */
-#define GATE_REFUSAL(reply) ((reply) & 0xff)
-#define GATE_RECORD(reply) ((reply) >> 8 & 0xff) /* of a refusal, 1 to 6 */
-#define GATE_ENDING(reply) ((reply) >> 8 & 0xff) /* of a round that is not refused */
-#define GATE_ASKED(reply) ((reply) >> 16)        /* where the ending is GATE_ASK */
+ *   byte 0 is 0         a round, not refused: byte 1 is 1 for grant, 2 for deny, 3 for a question, and then bytes 2 and 3
+ *                       are the set asked for */
+#define GATE_REFUSAL(reply) ((uint32_t)(reply) & 0xff)
+#define GATE_RECORD(reply) ((uint32_t)(reply) >> 8 & 0xff) /* of a refusal, 1 to 6 */
+#define GATE_ENDING(reply) ((uint32_t)(reply) >> 8 & 0xff) /* of a round that is not refused */
+#define GATE_ASKED(reply) ((uint32_t)(reply) >> 16)        /* where the ending is GATE_ASK */
 
 enum { GATE_GRANT = 1, GATE_DENY = 2, GATE_ASK = 3 };
 

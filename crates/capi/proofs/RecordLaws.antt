@@ -139,23 +139,11 @@ module _ (bytes : List ℕ) (b : Bytes bytes) (ten : length bytes ≡ 10) where
       let says = subst (SaidBy (getD bytes 7 0) (numberAt bytes 8)) is (said (getD bytes 7 0) (numberAt bytes 8)) in
       sym (packs (withPhase bytes f) (getD bytes 7 0) (numberAt bytes 8) (says .0) (says .1)) ∙ same f ∙ ap (from bytes 0) (sym ten) ∙ from-first bytes
 
-  number-lt : (i : ℕ) → numberAt bytes i < 2 ^ 16
-  number-lt i = omega (arith, byte-lt bytes b i, byte-lt bytes b (i + 1))
-
-  phase-packable : (f : Phase) → phaseIn (getD bytes 7 0) (numberAt bytes 8) ≡ some f → Packable (withPhase bytes f)
-  phase-packable f is =
-      let says = subst (SaidBy (getD bytes 7 0) (numberAt bytes 8)) is (said (getD bytes 7 0) (numberAt bytes 8)) in
-      record {
-        request = number-lt 0;
-        sets = record { shown = number-lt 2; declined = number-lt 4; asks = subst (λ (x : ℕ). x < 2 ^ 16) (says .1) (number-lt 8) };
-        count = byte-lt bytes b 6;
-      }
-
-  pub stands : (s : Session) → (unpacked bytes ≡ some s) ↔ (Packable s × (packed s ≡ bytes))
+  pub stands : (s : Session) → (unpacked bytes ≡ some s) ↔ (packed s ≡ bytes)
   unfolding unpacked
-  stands s = (to, λ h. ap unpacked (sym (h .1)) ∙ unpacks-packed s)
+  stands s = (to, λ h. ap unpacked (sym h) ∙ unpacks-packed s)
     where
-      to : unpacked bytes ≡ some s → Packable s × (packed s ≡ bytes)
+      to : unpacked bytes ≡ some s → packed s ≡ bytes
       to e =
           let found = map-some (withPhase bytes) (phaseIn (getD bytes 7 0) (numberAt bytes 8)) s .0 e in
-          subst (λ (x : Session). Packable x × (packed x ≡ bytes)) (sym (found .2)) (phase-packable (found .0) (found .1), packs-phase (found .0) (found .1))
+          ap packed (found .2) ∙ packs-phase (found .0) (found .1)

@@ -7,7 +7,7 @@ use Prim.Native.Nat.{_%_, _*_, _+_, _/_, _<_, _≤_, ℕ}
 use native.Mathlib.Omega.{arith}
 use Rattle.atoms.specs.LittleEndian.{Bytes}
 use Rattle.policy.specs.PolicyTest.{policyRefusal}
-use Rattle.policy.specs.WrittenForm.{PolicyRefused, Refusal, WellFormed, at}
+use Rattle.policy.specs.WrittenForm.{PolicyRefused, Refusal, WellFormed, at, recordNumber, refusalNumber}
 use Rattle.policy.proofs.RefusalLaws.{place-is}
 use Rattle.policy.proofs.TheoremsProof as policies
 use Rattle.session.specs.Endings.{Ending, ask, deny, grant}
@@ -16,15 +16,22 @@ use Rattle.session.specs.Rounds.{Answer, Move, ends, refuse, round}
 use Rattle.session.specs.Sessions.{Session}
 use Rattle.demands.proofs.PromiseProof.{demand1}
 use Rattle.capi.specs.Exports.{checkReply}
-use Rattle.capi.specs.Replies.{answerReply, detailIn, done, endingReply, policyReply, refusalIn, testReply}
-use Rattle.capi.specs.Theorems.{Told}
+use Rattle.capi.specs.Replies.{answerReply, endingReply, policyReply, testReply}
+use Rattle.capi.specs.Theorems.{Told, replyFor}
 
 -- ---- an ending
 
-pub ending-clear : (e : Ending) → refusalIn (endingReply e) ≡ 0
+pub ending-clear : (e : Ending) → endingReply e % 256 ≡ 0
 ending-clear grant = refl
 ending-clear deny = refl
 ending-clear (ask q) = omega arith
+
+pub replied : (a : Answer) → answerReply a ≡ replyFor a
+replied (ends grant) = refl
+replied (ends deny) = refl
+replied (ends (ask q)) = refl
+replied (refuse (ofPolicy f)) = refl
+replied (refuse (number n)) = refl
 
 -- ---- a policy's refusal
 
@@ -46,7 +53,7 @@ module _ (policy : List ℕ) (b : Bytes policy) where
   number-in n k h = policies.theorems .numbers policy b .only n k (policies.theorems .tested policy b .refuses (at n k) .1 h)
 
   pub policy-told : (n k : ℕ) → PolicyRefused policy (at n k)
-      → (refusalIn (policyReply (at n k)) ≢ 0) × (refusalIn (policyReply (at n k)) ≡ n) × (detailIn (policyReply (at n k)) ≡ k)
+      → (policyReply (at n k) % 256 ≢ 0) × (policyReply (at n k) % 256 ≡ n) × (policyReply (at n k) / 256 % 256 ≡ k)
   policy-told n k h =
       let small : n < 256 = omega (arith, number-in n k h .1) in
       let is = low-part n k small in
@@ -54,17 +61,21 @@ module _ (policy : List ℕ) (b : Bytes policy) where
 
   -- ---- the policy's test
 
-  pub accepts : (checkReply policy ≡ done) ↔ WellFormed policy
+  pub accepts : (checkReply policy ≡ 0) ↔ WellFormed policy
   unfolding checkReply
   accepts = go (policyRefusal policy) refl
     where
-      go : (o : Option Refusal) → policyRefusal policy ≡ o → (testReply o ≡ done) ↔ WellFormed policy
+      go : (o : Option Refusal) → policyRefusal policy ≡ o → (testReply o ≡ 0) ↔ WellFormed policy
       go none e = (λ z. policies.theorems .tested policy b .accepts .0 e, λ w. refl)
       go (some (at n k)) e =
           let n-in = policies.theorems .numbers policy b .only n k e in (
             λ z. absurd (omega (arith, n-in .0, z)),
             λ w. ap testReply (sym e ∙ policies.theorems .tested policy b .accepts .1 w),
           )
+
+  pub refuses : (f : Refusal) → PolicyRefused policy f → checkReply policy ≡ refusalNumber f + 0x100 * recordNumber f
+  unfolding checkReply
+  refuses f h = ap testReply (policies.theorems .tested policy b .refuses f .1 h)
 
   -- ---- a round's answer
 
@@ -73,10 +84,10 @@ module _ (policy : List ℕ) (b : Bytes policy) where
   number-small n (inr (inl e)) = (omega (arith, e), omega (arith, e))
   number-small n (inr (inr e)) = (omega (arith, e), omega (arith, e))
 
-  pub told : (s : Session) (m : Move) → Told (round policy s m .answer) (answerReply (round policy s m .answer))
+  pub told : (s : Session) (m : Move) → Told (round policy s m .answer) (replyFor (round policy s m .answer))
   told s m = go (round policy s m .answer) refl
     where
-      go : (a : Answer) → round policy s m .answer ≡ a → Told a (answerReply a)
+      go : (a : Answer) → round policy s m .answer ≡ a → Told a (replyFor a)
       go (ends grant) e = (refl, refl)
       go (ends deny) e = (refl, refl)
       go (ends (ask q)) e = (omega arith, omega arith, omega arith)

@@ -4,7 +4,8 @@ use mathlib.Core.Logic.{_≢_}
 use mathlib.Core.Bool.{Bool, false, true, true≢false}
 use mathlib.Core.List.{List, [], _∷_, map}
 use mathlib.Core.Option.{Option, none, some}
-use Prim.Native.Nat.{ℕ}
+use Prim.Native.Nat.{_%_, ℕ}
+use lib.ListN.{length}
 use native.Mathlib.Omega.{arith}
 use Rattle.atoms.specs.LittleEndian.{Bytes}
 use Rattle.policy.specs.PolicyTest.{policyRefusal}
@@ -20,17 +21,17 @@ use Rattle.demands.specs.Lists.{Linked}
 use Rattle.demands.specs.Promises.{Visit, runVisits}
 use Rattle.demands.proofs.Demand3Proof as demands
 use Rattle.demands.proofs.PromiseProof.{opening-promise, visits-mean}
-use Rattle.capi.specs.Exports.{Call, callOf, callsFrom, checkReply, leftBy, noSessionReply, openCall, playedCall, roundCall}
+use Rattle.capi.specs.Exports.{Call, callsFrom, leftBy, noSessionReply, openCall, playedCall, roundCall}
 use Rattle.capi.specs.Packed.{packed, unpacked}
-use Rattle.capi.specs.Replies.{answerReply, done, refusalIn, testReply}
-use Rattle.capi.specs.Theorems.{CallsMeetDemand3}
+use Rattle.capi.specs.Replies.{answerReply, policyReply}
+use Rattle.capi.specs.Theorems.{CallsMeetDemand3, callOf}
 use Rattle.capi.proofs.CallLaws.{open-gives, played}
-use Rattle.capi.proofs.RecordLaws.{unpacks-packed}
-use Rattle.capi.proofs.ReplyLaws.{ending-clear}
+use Rattle.capi.proofs.RecordLaws.{stands, unpacks-packed}
+use Rattle.capi.proofs.ReplyLaws.{ending-clear, replied}
 
 -- ---- opening
 
-pub opens : (r : ℕ) (before : List ℕ) → Service r → openCall r before ≡ record { reply = done; leaves = packed (opened r) }
+pub opens : (r : ℕ) (before : List ℕ) → Service r → openCall r before ≡ record { reply = 0; leaves = packed (opened r) }
 opens r before v = sym (open-gives r before (begins (opened r)) (opens-fresh r (sessions.theorems .service r .1 v)))
 
 pub unopened : (r : ℕ) (before : List ℕ) → (Service r → ⊥) → openCall r before ≡ record { reply = 7; leaves = before }
@@ -39,15 +40,15 @@ unopened r before n = sym (open-gives r before (refuses (number 7)) (sym (openin
 -- ---- a round
 
 module _ (policy before : List ℕ) (p : ℕ) where
-  pub left : refusalIn (roundCall policy before p .reply) ≢ 0 → roundCall policy before p .leaves ≡ before
+  pub left : roundCall policy before p .reply % 256 ≢ 0 → roundCall policy before p .leaves ≡ before
   unfolding roundCall
   left refused = go (unpacked before) refused
     where
-      of-answer : (a : Answer) (s : Session) → refusalIn (answerReply a) ≢ 0 → leftBy a before s ≡ before
+      of-answer : (a : Answer) (s : Session) → answerReply a % 256 ≢ 0 → leftBy a before s ≡ before
       of-answer (ends e) s n = absurd (n (ending-clear e))
       of-answer (refuse f) s n = refl
 
-      go : (o : Option Session) → refusalIn (playedCall policy before p o .reply) ≢ 0 → playedCall policy before p o .leaves ≡ before
+      go : (o : Option Session) → playedCall policy before p o .reply % 256 ≢ 0 → playedCall policy before p o .leaves ≡ before
       go none n = refl
       go (some s) n = of-answer (round policy s (record { shows = p }) .answer) (round policy s (record { shows = p }) .session) n
 
@@ -59,13 +60,10 @@ module _ (policy before : List ℕ) (p : ℕ) where
     no-session b w =
         unplayed ∙ ap (λ (o : Option W.Refusal). record { reply = noSessionReply o; leaves = before }) (policies.theorems .tested policy b .accepts .1 w)
 
-    pub untested : checkReply policy ≢ done → roundCall policy before p ≡ record { reply = checkReply policy; leaves = before }
-    unfolding checkReply
-    untested n = unplayed ∙ ap (λ (x : ℕ). record { reply = x; leaves = before }) (go (policyRefusal policy) n)
-      where
-        go : (o : Option W.Refusal) → testReply o ≢ done → noSessionReply o ≡ testReply o
-        go none m = absurd (m refl)
-        go (some f) m = refl
+    pub untested : Bytes policy → (f : W.Refusal) → W.PolicyRefused policy f
+        → roundCall policy before p ≡ record { reply = policyReply f; leaves = before }
+    untested b f h =
+        unplayed ∙ ap (λ (o : Option W.Refusal). record { reply = noSessionReply o; leaves = before }) (policies.theorems .tested policy b .refuses f .1 h)
 
 -- ---- a list of calls
 
@@ -83,8 +81,15 @@ left-packed policy s m = go (roundRefusal policy s)
 one-call : (policy : List ℕ) (s : Session) (m : Move)
     → roundCall policy (packed s) (m .shows) ≡ callOf (record { takes = m; gives = round policy s m })
 one-call policy s m =
+    let o = round policy s m in
     sym (played policy (packed s) (m .shows) (some s) (sym (unpacks-packed s)))
-    ∙ ap (λ (bytes : List ℕ). record { reply = answerReply (round policy s m .answer); leaves = bytes }) (left-packed policy s m)
+    ∙ ap (λ (bytes : List ℕ). record { reply = answerReply (o .answer); leaves = bytes }) (left-packed policy s m)
+    ∙ ap (λ (x : ℕ). record { reply = x; leaves = packed (o .session) }) (replied (o .answer))
+
+pub plays : (policy before : List ℕ) → Bytes before → length before ≡ 10 → (s : Session) (m : Move) → unpacked before ≡ some s
+    → roundCall policy before (m .shows) ≡ callOf (record { takes = m; gives = round policy s m })
+plays policy before b ten s m e =
+    ap (λ (bytes : List ℕ). roundCall policy bytes (m .shows)) (sym (stands before b ten s .0 e)) ∙ one-call policy s m
 
 pub calls : (s : Session) (vs : List Visit) → callsFrom (packed s) vs ≡ map callOf (runVisits s vs)
 unfolding callsFrom runVisits
@@ -100,7 +105,7 @@ run-linked policy s [] = tt
 run-linked policy s (m ∷ ms) = (refl, refl, run-linked policy (round policy s m .session) ms)
 
 -- where opening replies 0, the request is a service
-served : (r : ℕ) (before : List ℕ) → openCall r before .reply ≡ done → Service r
+served : (r : ℕ) (before : List ℕ) → openCall r before .reply ≡ 0 → Service r
 served r before e = go (isService r) refl
   where
     go : (x : Bool) → isService r ≡ x → Service r

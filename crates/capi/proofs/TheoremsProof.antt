@@ -1,4 +1,6 @@
 -- The theorems of the C interface. Assumes nothing.
+use mathlib.Core.Path.{refl}
+use Rattle.capi.specs.Packed.{packed}
 use Rattle.capi.specs.Theorems.{Theorems}
 use Rattle.capi.proofs.ExamplesProof.{examples}
 use Rattle.capi.proofs.RecordLaws.{packed-fits, stands}
@@ -6,16 +8,25 @@ use Rattle.capi.proofs.ReplyLaws as replies
 use Rattle.capi.proofs.SessionLaws as sessions
 
 pub theorems : Theorems
+unfolding packed
 theorems = record {
   stands = stands;
   fits = packed-fits;
+  fresh-bytes = λ r P N n. refl;
+  waiting-bytes = λ r P N n q. refl;
+  granted-bytes = λ r P N n. refl;
+  denied-bytes = λ r P N n. refl;
   accepts = replies.accepts;
-  told = replies.told;
+  refuses = replies.refuses;
+  given = λ S before. (refl, refl);
+  ungiven = λ f before. (refl, refl);
   opens = sessions.opens;
   unopened = sessions.unopened;
-  left = sessions.left;
+  plays = sessions.plays;
   no-session = λ policy b w before p none-in. sessions.no-session policy before p none-in b w;
-  untested = sessions.untested;
+  untested = λ policy b f h before p none-in. sessions.untested policy before p none-in b f h;
+  left = sessions.left;
+  told = replies.told;
   calls = sessions.calls;
   demand3 = sessions.demand3;
   examples = examples;

@@ -6,7 +6,7 @@ use Rattle.policy.specs.PolicyTest.{policyRefusal}
 use Rattle.policy.specs.WrittenForm as W
 use Rattle.model.specs.Answers as A
 use Rattle.session.specs.Refusals.{number}
-use Rattle.session.specs.Rounds.{Answer, Opened, Outcome, Turn, begins, ends, opening, refuse, refuses, round}
+use Rattle.session.specs.Rounds.{Answer, Opened, Outcome, begins, ends, opening, refuse, refuses, round}
 use Rattle.session.specs.Sessions.{Session}
 use Rattle.session.specs.Types.{moveOf}
 use Rattle.demands.specs.Promises.{Visit}
@@ -68,7 +68,3 @@ roundCall policy before p = playedCall policy before p (unpacked before)
 unfoldable pub callsFrom : List ℕ → List Visit → List Call
 callsFrom before [] = []
 callsFrom before (v ∷ vs) = let c = roundCall (v .policy) before (v .takes .shows) in c ∷ callsFrom (c .leaves) vs
-
--- what a round comes to as such a call
-abbrev pub callOf : Turn → Call
-callOf t = record { reply = answerReply (t .gives .answer); leaves = packed (t .gives .session) }

@@ -1,6 +1,6 @@
 -- Answers as numbers: byte 0 a refusal's number, or 0; byte 1 the record's number, or how a round ended; above them the asked set. Assumes nothing.
 use mathlib.Core.Option.{Option, none, some}
-use Prim.Native.Nat.{_%_, _*_, _+_, _/_, ℕ}
+use Prim.Native.Nat.{_*_, _+_, ℕ}
 use Rattle.policy.specs.WrittenForm as W
 use Rattle.session.specs.Endings.{Ending, ask, deny, grant}
 use Rattle.session.specs.Refusals.{Refusal, number, ofPolicy}
@@ -32,17 +32,3 @@ endingReply (ask q) = 256 * 3 + 65536 * q .asks
 abbrev pub answerReply : Answer → ℕ
 answerReply (ends e) = endingReply e
 answerReply (refuse f) = refusalReply f
-
--- ---- what include/gate.h reads of a reply
-
--- GATE_REFUSAL
-abbrev pub refusalIn : ℕ → ℕ
-refusalIn r = r % 256
-
--- GATE_RECORD and GATE_ENDING
-abbrev pub detailIn : ℕ → ℕ
-detailIn r = r / 256 % 256
-
--- GATE_ASKED
-abbrev pub askedIn : ℕ → ℕ
-askedIn r = r / 65536

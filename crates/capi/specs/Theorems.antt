@@ -1,9 +1,9 @@
 -- The theorems of the C interface: the record, the replies, and demand 3 of a list of calls. Assumes nothing.
 use mathlib.Core.Path.{_≡_}
 use mathlib.Core.Logic.{_↔_, _≢_}
-use mathlib.Core.List.{List, map}
+use mathlib.Core.List.{List, [], _∷_, map}
 use mathlib.Core.Option.{none, some}
-use Prim.Native.Nat.{_<_, _^_, ℕ}
+use Prim.Native.Nat.{_%_, _*_, _+_, _/_, _<_, _^_, ℕ}
 use lib.ListN.{length}
 use Rattle.atoms.specs.LittleEndian.{Bytes}
 use Rattle.rules.specs.Rules.{Every}
@@ -11,31 +11,47 @@ use Rattle.policy.specs.WrittenForm as W
 use Rattle.session.specs.Endings.{ask, deny, grant}
 use Rattle.session.specs.Refusals.{Refusal, number, ofPolicy}
 use Rattle.session.specs.Rounds.{Answer, Move, Turn, ends, refuse, round}
-use Rattle.session.specs.Sessions.{Service, Session, opened}
+use Rattle.session.specs.Sessions.{Service, Session, closed, denied, fresh, granted, opened, waiting}
+use Rattle.search.specs.Question.{Question}
+use Rattle.model.specs.Answers as A
 use Rattle.demands.specs.Demand3.{Demand3}
 use Rattle.demands.specs.Promises.{Visit, runVisits}
 use Rattle.capi.specs.Examples.{Examples}
-use Rattle.capi.specs.Exports.{callOf, callsFrom, checkReply, openCall, roundCall}
+use Rattle.capi.specs.Exports.{Call, callsFrom, checkReply, openCall, roundCall, setAfter, setReply}
 use Rattle.capi.specs.Packed.{Packable, packed, unpacked}
-use Rattle.capi.specs.Replies.{answerReply, askedIn, detailIn, done, refusalIn}
 
--- what include/gate.h reads of a refusal's reply: its number, and the record's
+-- include/gate.h's number for a round's answer: byte 0 a refusal's number, byte 1 its record's number or 1 grant, 2 deny, 3 ask; above them the asked set
+abbrev pub replyFor : Answer → ℕ
+replyFor (ends grant) = 0x0100
+replyFor (ends deny) = 0x0200
+replyFor (ends (ask q)) = 0x0300 + 0x10000 * q .asks
+replyFor (refuse (ofPolicy f)) = W.refusalNumber f + 0x100 * W.recordNumber f
+replyFor (refuse (number n)) = n
+
+-- what its macros read of a number: GATE_REFUSAL, GATE_RECORD and GATE_ENDING, GATE_ASKED
 abbrev pub ToldRefusal : Refusal → ℕ → Type 0
-ToldRefusal (ofPolicy f) x = (refusalIn x ≡ W.refusalNumber f) × (detailIn x ≡ W.recordNumber f)
-ToldRefusal (number n) x = refusalIn x ≡ n
+ToldRefusal (ofPolicy f) x = (x % 256 ≡ W.refusalNumber f) × (x / 256 % 256 ≡ W.recordNumber f)
+ToldRefusal (number n) x = x % 256 ≡ n
 
--- and of an answer's: not refused, 1 grant, 2 deny, 3 ask, and the asked set
 abbrev pub Told : Answer → ℕ → Type 0
-Told (ends grant) x = (refusalIn x ≡ 0) × (detailIn x ≡ 1)
-Told (ends deny) x = (refusalIn x ≡ 0) × (detailIn x ≡ 2)
-Told (ends (ask q)) x = (refusalIn x ≡ 0) × (detailIn x ≡ 3) × (askedIn x ≡ q .asks)
-Told (refuse f) x = (refusalIn x ≢ 0) × ToldRefusal f x
+Told (ends grant) x = (x % 256 ≡ 0) × (x / 256 % 256 ≡ 1)
+Told (ends deny) x = (x % 256 ≡ 0) × (x / 256 % 256 ≡ 2)
+Told (ends (ask q)) x = (x % 256 ≡ 0) × (x / 256 % 256 ≡ 3) × (x / 65536 ≡ q .asks)
+Told (refuse f) x = (x % 256 ≢ 0) × ToldRefusal f x
+
+-- its layout of a session: request, shown set, declined set, count, phase, question
+abbrev pub tenBytes : ℕ → ℕ → ℕ → ℕ → ℕ → ℕ → List ℕ
+tenBytes r P N n t q = r % 256 ∷ r / 256 ∷ P % 256 ∷ P / 256 ∷ N % 256 ∷ N / 256 ∷ n ∷ t ∷ q % 256 ∷ q / 256 ∷ []
+
+-- what a round comes to as a call
+abbrev pub callOf : Turn → Call
+callOf t = record { reply = replyFor (t .gives .answer); leaves = packed (t .gives .session) }
 
 -- Demand 3 of a list of calls: opening has replied 0 for the request, and gate_round was called for each p of the list, a u16, on the record that
 -- opening left. Replies and records are those of rounds that meet demand 3.
 abbrev pub CallsMeetDemand3 : Type 0
 CallsMeetDemand3 =
-    (policy : List ℕ) → Bytes policy → W.WellFormed policy → (r : ℕ) (before : List ℕ) → openCall r before .reply ≡ done
+    (policy : List ℕ) → Bytes policy → W.WellFormed policy → (r : ℕ) (before : List ℕ) → openCall r before .reply ≡ 0
     → (ms : List Move) → Every (λ m. m .shows < 2 ^ 16) ms
     → (ts : List Turn)
     × Demand3 policy r (opened r) ms ts
@@ -45,28 +61,49 @@ pub record Theorems : Type 0 where
   -- ---- the record of ten bytes
 
   -- ten bytes stand for a session exactly where they are its bytes
-  pub stands : (bytes : List ℕ) → Bytes bytes → length bytes ≡ 10 → (s : Session) → (unpacked bytes ≡ some s) ↔ (Packable s × (packed s ≡ bytes))
+  pub stands : (bytes : List ℕ) → Bytes bytes → length bytes ≡ 10 → (s : Session) → (unpacked bytes ≡ some s) ↔ (packed s ≡ bytes)
   -- a session's bytes are ten bytes
   pub fits : (s : Session) → Packable s → Bytes (packed s) × (length (packed s) ≡ 10)
-  -- ---- replies
+  -- which: phase 0 fresh, 1 waiting, 2 closed with grant, 3 closed with deny
+  pub fresh-bytes : (r P N n : ℕ) → packed (record { request = r; shown = P; declined = N; count = n; phase = fresh }) ≡ tenBytes r P N n 0 0
+  pub waiting-bytes : (r P N n : ℕ) (q : Question)
+      → packed (record { request = r; shown = P; declined = N; count = n; phase = waiting q }) ≡ tenBytes r P N n 1 (q .asks)
+  pub granted-bytes : (r P N n : ℕ)
+      → packed (record { request = r; shown = P; declined = N; count = n; phase = closed granted }) ≡ tenBytes r P N n 2 0
+  pub denied-bytes : (r P N n : ℕ)
+      → packed (record { request = r; shown = P; declined = N; count = n; phase = closed denied }) ≡ tenBytes r P N n 3 0
+  -- ---- the policy's test: 0, or the refusal's number and the record's
 
-  pub accepts : (policy : List ℕ) → Bytes policy → (checkReply policy ≡ done) ↔ W.WellFormed policy
-  -- each answer of a round can be read off its reply
-  pub told : (policy : List ℕ) → Bytes policy → (s : Session) (m : Move) → Told (round policy s m .answer) (answerReply (round policy s m .answer))
-  -- ---- sessions
+  pub accepts : (policy : List ℕ) → Bytes policy → (checkReply policy ≡ 0) ↔ W.WellFormed policy
+  pub refuses : (policy : List ℕ) → Bytes policy → (f : W.Refusal) → W.PolicyRefused policy f
+      → checkReply policy ≡ W.refusalNumber f + 0x100 * W.recordNumber f
+  -- ---- sets: 0 and the set; or the policy's refusal, and what was there before
 
-  -- a fresh session, or 7 and the record as it was
-  pub opens : (r : ℕ) (before : List ℕ) → Service r → openCall r before ≡ record { reply = done; leaves = packed (opened r) }
+  pub given : (S before : ℕ) → (setReply (A.given S) ≡ 0) × (setAfter (A.given S) before ≡ S)
+  pub ungiven : (f : W.Refusal) (before : ℕ)
+      → (setReply (A.refused f) ≡ W.refusalNumber f + 0x100 * W.recordNumber f) × (setAfter (A.refused f) before ≡ before)
+  -- ---- opening: a fresh session, or 7 and the record as it was
+
+  pub opens : (r : ℕ) (before : List ℕ) → Service r → openCall r before ≡ record { reply = 0; leaves = packed (opened r) }
   pub unopened : (r : ℕ) (before : List ℕ) → (Service r → ⊥) → openCall r before ≡ record { reply = 7; leaves = before }
-  -- a refused round leaves the record as it was
-  pub left : (policy before : List ℕ) (p : ℕ) → refusalIn (roundCall policy before p .reply) ≢ 0 → roundCall policy before p .leaves ≡ before
+  -- ---- a round
+
+  -- of the session that the bytes stand for
+  pub plays : (policy before : List ℕ) → Bytes before → length before ≡ 10 → (s : Session) (m : Move) → unpacked before ≡ some s
+      → roundCall policy before (m .shows) ≡ callOf (record { takes = m; gives = round policy s m })
   -- "what is no session is refused 8 and left as it was", after the policy's test
   pub no-session : (policy : List ℕ) → Bytes policy → W.WellFormed policy → (before : List ℕ) (p : ℕ) → unpacked before ≡ none
       → roundCall policy before p ≡ record { reply = 8; leaves = before }
-  pub untested : (policy : List ℕ) (before : List ℕ) (p : ℕ) → unpacked before ≡ none → checkReply policy ≢ done
-      → roundCall policy before p ≡ record { reply = checkReply policy; leaves = before }
-  -- any list of calls, with policies changed between them, is the list of rounds that document 01 defines
+  pub untested : (policy : List ℕ) → Bytes policy → (f : W.Refusal) → W.PolicyRefused policy f → (before : List ℕ) (p : ℕ) → unpacked before ≡ none
+      → roundCall policy before p ≡ record { reply = W.refusalNumber f + 0x100 * W.recordNumber f; leaves = before }
+  -- a refused round leaves the record as it was
+  pub left : (policy before : List ℕ) (p : ℕ) → roundCall policy before p .reply % 256 ≢ 0 → roundCall policy before p .leaves ≡ before
+  -- each answer can be read off its number
+  pub told : (policy : List ℕ) → Bytes policy → (s : Session) (m : Move) → Told (round policy s m .answer) (replyFor (round policy s m .answer))
+  -- ---- calls one after another
+
+  -- any list of them, with policies changed between, is the list of rounds that document 01 defines
   pub calls : (s : Session) (vs : List Visit) → callsFrom (packed s) vs ≡ map callOf (runVisits s vs)
   pub demand3 : CallsMeetDemand3
-  -- the layout and the numbers once more, on document 01's cases
+  -- document 01's cases, byte for byte
   pub examples : Examples
