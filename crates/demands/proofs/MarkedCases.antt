@@ -1,4 +1,4 @@
--- The marked cases, computed from the definitions. Assumes nothing.
+-- The marked cases, computed from the definitions; (b), of every shown set, by their laws. Assumes nothing.
 use mathlib.Core.Path.{_≡_, ap, refl, subst, sym}
 use mathlib.Core.Logic.{_⊎_, inl, inr}
 use mathlib.Core.Bool.{Bool, _&&_, true}
