@@ -7,7 +7,8 @@ use Prim.Native.Nat.{_+_, _<_, _^_, _≤_, suc, ℕ}
 use lib.ListN.{length}
 use native.Mathlib.Omega.{arith}
 use Rattle.atoms.specs.LittleEndian.{Bytes}
-use Rattle.atoms.specs.Sets.{empty}
+use Rattle.atoms.specs.Sets.{Member, empty}
+use Rattle.atoms.proofs.SetLaws.{union-left, union-right}
 use Rattle.rules.specs.Rules.{Every}
 use Rattle.policy.specs.PolicyTest.{firstFailed}
 use Rattle.policy.specs.WrittenForm as W
@@ -229,6 +230,8 @@ module _ (bytes : List ℕ) (b : Bytes bytes) (s : Session) (m : Move) where
       request = ap (λ (y : Outcome). y .session .request) is;
       shown = ap (λ (y : Outcome). y .session .shown) is;
       declined = ap (λ (y : Outcome). y .session .declined) is;
+      kept = λ k n p. subst (λ (y : Outcome). Member k (y .session .shown) × Member k (y .session .declined)) (sym is)
+          (union-right (s .shown) (m .shows) k p, union-left (s .declined) _ k n);
       count = ap (λ (y : Outcome). y .session .count) is;
       grant-closes = λ e. ap (λ (y : Outcome). y .session .phase) is ∙ ap phaseAfter e;
       deny-closes = λ e. ap (λ (y : Outcome). y .session .phase) is ∙ ap phaseAfter e;

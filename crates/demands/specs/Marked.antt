@@ -3,7 +3,7 @@ use mathlib.Core.Path.{_≡_}
 use mathlib.Core.Bool.{Bool, false, true}
 use mathlib.Core.List.{List, [], _++_, _∷_, map}
 use mathlib.Core.Option.{none, some}
-use Prim.Native.Nat.{_+_, ℕ}
+use Prim.Native.Nat.{_+_, _<_, _^_, ℕ}
 use Rattle.atoms.specs.Sets.{empty, intersection, union}
 use Rattle.records.specs.Records.{accessKind, rulesOf}
 use Rattle.records.specs.Writing.{_if_not_, disclose_if_, setOf}
@@ -79,8 +79,8 @@ pub record Marked : Type 0 where
   pub opens : opening 16 ≡ begins (opened 16)
   -- "(a) the three rounds above": "round 1 got 0000 ask 0004", "round 2 got 0000 ask 0003", "round 3 got 0003 grant"
   pub a : lines policyA (0x0000 ∷ 0x0000 ∷ 0x0003 ∷ []) ≡ (1, 0x0000, asking 0x0004) ∷ (2, 0x0000, asking 0x0003) ∷ (3, 0x0003, ends grant) ∷ []
-  -- "(b) empty policy, request 16: deny in round 1"
-  pub b : answers [] (empty ∷ []) ≡ ends deny ∷ []
+  -- "(b) empty policy, request 16: deny in round 1", whatever is shown
+  pub b : (p : ℕ) → p < 2 ^ 16 → answers [] (p ∷ []) ≡ ends deny ∷ []
   -- "(c) 16 with empty body: grant in round 1 with nothing shown"
   pub c : answers (16 if [] not []) (empty ∷ []) ≡ ends grant ∷ []
   -- "(d) policy A, P = {0, 2}: 63 in the model, no grant", though 16 is in it too

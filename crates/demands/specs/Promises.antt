@@ -4,7 +4,7 @@ use mathlib.Core.Logic.{_↔_}
 use mathlib.Core.List.{List, [], _∷_, map}
 use Prim.Native.Nat.{_≤_, suc, ℕ}
 use lib.ListN.{length}
-use Rattle.atoms.specs.Sets.{difference, empty, union}
+use Rattle.atoms.specs.Sets.{Member, difference, empty, union}
 use Rattle.policy.specs.WrittenForm.{WellFormed}
 use Rattle.search.specs.Question.{Question}
 use Rattle.session.specs.Endings.{Ending, ask, deny, grant, policyOf}
@@ -37,6 +37,8 @@ pub record AcceptedRound (bytes : List ℕ) (s : Session) (m : Move) (o : Outcom
   pub shown : o .session .shown ≡ union (s .shown) (m .shows)
   -- "N becomes N with those of Q not in p (Q is empty when fresh)"
   pub declined : o .session .declined ≡ union (s .declined) (difference (question (s .phase) .asks) (m .shows))
+  -- "A credential declined and later shown counts as shown and stays in N."
+  pub kept : (k : ℕ) → Member k (s .declined) → Member k (m .shows) → Member k (o .session .shown) × Member k (o .session .declined)
   -- "the count rises by 1"
   pub count : o .session .count ≡ suc (s .count)
   -- "grant, closed", "deny, closed", "is asked and becomes Q"
