@@ -1,0 +1,202 @@
+//! The differential tests: the gate against document 01 in plain Rust.
+
+use differential::bench_runs::bench_runs;
+use differential::counts::Counts;
+use differential::gate::Gate;
+use differential::options::{parse, Options, USAGE};
+use differential::random::Random;
+use differential::replay::replay;
+use differential::report::Shared;
+use differential::scenarios::scenario;
+use differential::slips::{Slip, Slipped, SLIPS};
+use differential::tester::Tester;
+use std::io::IsTerminal;
+use std::process::ExitCode;
+use std::sync::atomic::{AtomicBool, AtomicUsize, Ordering};
+use std::sync::Mutex;
+use std::thread;
+use std::time::{Duration, Instant};
+
+/// A run of fewer cases need not have brought everything up.
+const ENOUGH_FOR_COVERAGE: u64 = 200_000;
+
+/// One thread's share of the cases.
+fn test(shared: &Shared, options: &Options, thread: u64) -> Counts {
+    let first = options.cases * thread / options.threads;
+    let share = options.cases * (thread + 1) / options.threads - first;
+    let random = Random::new(options.seed, thread);
+    let mut tester = Tester::new(Box::new(Gate), random, shared, true);
+    while tester.counts.cases() < share && !shared.stopped() {
+        scenario(&mut tester);
+    }
+    tester.counts
+}
+
+fn test_and_bench(shared: &Shared, options: &Options, thread: u64) -> Result<Counts, String> {
+    let mut counts = test(shared, options, thread);
+    let first = options.bench_runs * thread / options.threads;
+    let share = options.bench_runs * (thread + 1) / options.threads - first;
+    let (runs, disagreed) = bench_runs(shared, options.seed, thread, share)?;
+    counts.bench_runs = runs;
+    counts.disagreements += disagreed;
+    Ok(counts)
+}
+
+/// Says how far the run is: in place on a terminal, else every ten seconds.
+fn progress(shared: &Shared, done: &AtomicBool) {
+    let terminal = std::io::stderr().is_terminal();
+    let start = Instant::now();
+    let mut ticks = 0;
+    while !done.load(Ordering::Relaxed) {
+        thread::sleep(Duration::from_millis(100));
+        ticks += 1;
+        if ticks % if terminal { 10 } else { 100 } != 0 {
+            continue;
+        }
+        let seconds = start.elapsed().as_secs_f64();
+        let cases = shared.cases.load(Ordering::Relaxed);
+        let wrong = shared.disagreements.load(Ordering::Relaxed);
+        let line = format!(
+            "{cases} cases, {:.0} a second, {seconds:.0} s, {wrong} disagreements",
+            cases as f64 / seconds
+        );
+        if terminal {
+            eprint!("\r{line}   ");
+        } else {
+            eprintln!("{line}");
+        }
+    }
+    if terminal {
+        eprintln!();
+    }
+}
+
+fn shared(options: &Options, quiet: bool) -> Shared {
+    let folder = options.root.join("target/differential");
+    let bench = options.root.join("target/bin/bench");
+    Shared::new(folder, bench, quiet)
+}
+
+/// The tests of the gate: the joint counts of all threads.
+fn run_threads(shared: &Shared, options: &Options) -> Result<Counts, String> {
+    let done = AtomicBool::new(false);
+    thread::scope(|scope| {
+        let threads: Vec<_> = (0..options.threads)
+            .map(|number| scope.spawn(move || test_and_bench(shared, options, number)))
+            .collect();
+        scope.spawn(|| progress(shared, &done));
+        let mut total = Counts::default();
+        let mut failed = None;
+        for handle in threads {
+            match handle.join() {
+                Ok(Ok(counts)) => total.add(&counts),
+                Ok(Err(error)) => failed = Some(error),
+                Err(_) => failed = Some("a thread stopped".to_string()),
+            }
+        }
+        done.store(true, Ordering::Relaxed);
+        failed.map_or(Ok(total), Err)
+    })
+}
+
+fn test_gate(options: &Options) -> Result<bool, String> {
+    let start = Instant::now();
+    let shared = shared(options, false);
+    let total = run_threads(&shared, options)?;
+    let seconds = start.elapsed().as_secs_f64();
+    println!("seed {}, threads {}", options.seed, options.threads);
+    total.print();
+    let missing = total.missing();
+    for what in &missing {
+        println!("did not come up: {what}");
+    }
+    let rate = total.cases() as f64 / seconds;
+    println!("\n{seconds:.1} s, {rate:.0} cases a second");
+    println!(
+        "{} cases, {} disagreements",
+        total.cases(),
+        total.disagreements
+    );
+    let covered = missing.is_empty() || total.cases() < ENOUGH_FOR_COVERAGE;
+    Ok(total.disagreements == 0 && covered)
+}
+
+/// The case in which a slip is found out, if it is.
+fn find_out(options: &Options, slip: Slip) -> Option<u64> {
+    let shared = shared(options, true);
+    let random = Random::new(options.seed, 0);
+    let mut tester = Tester::new(Box::new(Slipped(slip)), random, &shared, false);
+    while tester.counts.cases() < options.slip_cases && !shared.stopped() {
+        scenario(&mut tester);
+    }
+    shared.stopped().then(|| tester.counts.cases())
+}
+
+/// Every slip must be found out; the same code without a slip must not be.
+fn test_slips(options: &Options) -> Result<bool, String> {
+    let next = AtomicUsize::new(0);
+    let results = Mutex::new(vec![None; SLIPS.len()]);
+    let control = thread::scope(|scope| {
+        let control = scope.spawn(|| find_out(options, Slip::None));
+        for _ in 0..options.threads {
+            scope.spawn(|| loop {
+                let this = next.fetch_add(1, Ordering::Relaxed);
+                let Some((slip, _)) = SLIPS.get(this) else {
+                    return;
+                };
+                let found = find_out(options, *slip);
+                if let Ok(mut results) = results.lock() {
+                    results[this] = found;
+                }
+            });
+        }
+        control.join()
+    });
+    let control = control.map_err(|_| "a thread stopped")?;
+    let results = results.into_inner().map_err(|_| "a thread stopped")?;
+    Ok(print_slips(options, control, &results))
+}
+
+fn print_slips(options: &Options, control: Option<u64>, results: &[Option<u64>]) -> bool {
+    println!("seed {}: found out in case", options.seed);
+    for ((_, text), found) in SLIPS.iter().zip(results) {
+        match found {
+            Some(case) => println!("  {case:>8}  {text}"),
+            None => println!("  NOT FOUND {text}"),
+        }
+    }
+    match control {
+        Some(case) => println!("the same code without a slip disagrees in case {case}"),
+        None => println!(
+            "the same code without a slip: {} cases, 0 disagreements",
+            options.slip_cases
+        ),
+    }
+    let found = results.iter().flatten().count();
+    println!("{} slips, {found} found out", SLIPS.len());
+    found == SLIPS.len() && control.is_none()
+}
+
+fn run() -> Result<bool, String> {
+    let options = parse(std::env::args().skip(1))?;
+    if options.help {
+        println!("{USAGE}");
+        return Ok(true);
+    }
+    match &options.replay {
+        Some(folder) => replay(folder),
+        None if options.slips => test_slips(&options),
+        None => test_gate(&options),
+    }
+}
+
+fn main() -> ExitCode {
+    match run() {
+        Ok(true) => ExitCode::SUCCESS,
+        Ok(false) => ExitCode::FAILURE,
+        Err(error) => {
+            eprintln!("differential: {error}\n{USAGE}");
+            ExitCode::from(2)
+        }
+    }
+}

@@ -1,0 +1,56 @@
+//! Clients: what is shown in each round of a list.
+
+use crate::random::Random;
+
+/// How a client answers.
+#[derive(Clone, Copy, PartialEq, Eq, Debug)]
+pub enum Manner {
+    /// Shows random sets.
+    Random,
+    /// Shows a part of what is asked.
+    PartOfAsked,
+    /// Never shows anything.
+    Nothing,
+    /// Shows all that is asked.
+    AllAsked,
+    /// Shows every credential at once.
+    Everything,
+    /// Shows again what it has shown, and a part of what is asked.
+    Again,
+    /// "shows in round 1 a part I of what it holds and answers each question with exactly the asked ones it holds"
+    Cooperative { holding: u16, first: u16 },
+}
+
+/// A manner for a client who does not cooperate.
+pub fn manner(random: &mut Random) -> Manner {
+    random.pick(&[
+        Manner::Random,
+        Manner::PartOfAsked,
+        Manner::PartOfAsked,
+        Manner::PartOfAsked,
+        Manner::Nothing,
+        Manner::Nothing,
+        Manner::AllAsked,
+        Manner::Everything,
+        Manner::Again,
+    ])
+}
+
+/// What is shown next: `asked` is what the last round asked, none before the first.
+pub fn shows(random: &mut Random, manner: Manner, asked: Option<u16>, so_far: u16) -> u16 {
+    let question = asked.unwrap_or(0);
+    match manner {
+        Manner::Random if random.one_in(3) => random.word(),
+        Manner::Random => random.word() & random.word() & random.word(),
+        Manner::PartOfAsked if random.one_in(10) => 1 << random.below(16),
+        Manner::PartOfAsked => random.credentials(question),
+        Manner::Nothing => 0,
+        Manner::AllAsked => question,
+        Manner::Everything => 0xffff,
+        Manner::Again => so_far | random.credentials(question),
+        Manner::Cooperative { holding, first } => match asked {
+            None => first,
+            Some(question) => question & holding,
+        },
+    }
+}
