@@ -13,6 +13,8 @@ pub enum Manner {
     Nothing,
     /// Shows all that is asked.
     AllAsked,
+    /// Shows nothing before this round, and all that is asked from it on.
+    Late(usize),
     /// Shows every credential at once.
     Everything,
     /// Shows again what it has shown, and a part of what is asked.
@@ -23,7 +25,9 @@ pub enum Manner {
 
 /// A manner for a client who does not cooperate.
 pub fn manner(random: &mut Random) -> Manner {
+    let round = random.range(2, 17);
     random.pick(&[
+        Manner::Late(round),
         Manner::Random,
         Manner::PartOfAsked,
         Manner::PartOfAsked,
@@ -36,19 +40,30 @@ pub fn manner(random: &mut Random) -> Manner {
     ])
 }
 
-/// What is shown next: `asked` is what the last round asked, none before the first.
-pub fn shows(random: &mut Random, manner: Manner, asked: Option<u16>, so_far: u16) -> u16 {
-    let question = asked.unwrap_or(0);
+/// What a client knows of its list.
+pub struct Seen {
+    /// This round's number.
+    pub round: usize,
+    /// What the last round asked; none before the first.
+    pub asked: Option<u16>,
+    /// All that it has shown.
+    pub shown: u16,
+}
+
+/// What is shown next.
+pub fn shows(random: &mut Random, manner: Manner, seen: &Seen) -> u16 {
+    let question = seen.asked.unwrap_or(0);
     match manner {
         Manner::Random if random.one_in(3) => random.word(),
         Manner::Random => random.word() & random.word() & random.word(),
         Manner::PartOfAsked if random.one_in(10) => 1 << random.below(16),
         Manner::PartOfAsked => random.credentials(question),
         Manner::Nothing => 0,
-        Manner::AllAsked => question,
+        Manner::Late(round) if seen.round < round => 0,
+        Manner::Late(_) | Manner::AllAsked => question,
         Manner::Everything => 0xffff,
-        Manner::Again => so_far | random.credentials(question),
-        Manner::Cooperative { holding, first } => match asked {
+        Manner::Again => seen.shown | random.credentials(question),
+        Manner::Cooperative { holding, first } => match seen.asked {
             None => first,
             Some(question) => question & holding,
         },

@@ -73,6 +73,8 @@ pub struct Counts {
     pub tuned: u64,
     pub bench_runs: u64,
     pub disagreements: u64,
+    /// The case with the first disagreement; 0 where there is none.
+    pub first_disagreement: u64,
 }
 
 fn add_all(to: &mut [u64], from: &[u64]) {

@@ -49,9 +49,9 @@ fn some(random: &mut Random, count: usize, first: u8, last: u8) -> Vec<u8> {
 /// How many credentials a policy speaks of: mostly few, for a round tries the subsets of those that may be asked.
 fn credential_count(random: &mut Random) -> usize {
     match random.below(1000) {
-        0..=699 => random.range(1, 5),
-        700..=959 => random.range(5, 7),
-        960..=996 => random.range(8, 11),
+        0..=549 => random.range(1, 5),
+        550..=879 => random.range(5, 8),
+        880..=984 => random.range(8, 11),
         _ => random.range(12, 16),
     }
 }
@@ -153,7 +153,7 @@ fn alternatives(random: &mut Random) -> Vec<Record> {
     let credentials = some(random, count, 0, 15);
     let service = random.range(16, 62) as u8;
     let mut records = disclosures(random, &credentials);
-    for _ in 0..random.range(1, 7) {
+    for _ in 0..random.pick(&[1, 2, 3, 4, 5, 6, 8, 12]) {
         let size = random.pick(&[1, 1, 2, 2, 2, 3, 3, 4]);
         let body = draw(random, &credentials, size);
         let negated = random.pick(&[0, 0, 0, 1]);
@@ -252,7 +252,7 @@ fn edges(random: &mut Random) -> Vec<Record> {
 /// A service that each askable credential gives alone, or gives with one more: long sessions.
 fn singles(random: &mut Random) -> Vec<Record> {
     let count = random.pick(&[1, 2, 3, 4, 5, 6, 7, 8, 10, 12]);
-    let count = if random.one_in(12) { 16 } else { count };
+    let count = if random.one_in(8) { 16 } else { count };
     let credentials = some(random, count, 0, 15);
     let service = random.range(16, 62) as u8;
     let mut records = Vec::new();
@@ -261,6 +261,23 @@ fn singles(random: &mut Random) -> Vec<Record> {
         records.push(access(service, 1 << head, 0));
     }
     random.shuffle(&mut records);
+    records
+}
+
+/// A service that needs many credentials at once: large questions, many candidates before them.
+fn wide(random: &mut Random) -> Vec<Record> {
+    let count = random.pick(&[5, 6, 7, 8, 8, 9, 9, 10, 10, 11, 12]);
+    let count = if random.one_in(50) { 16 } else { count };
+    let credentials = some(random, count, 0, 15);
+    let service = random.range(16, 62) as u8;
+    let mut records = disclosures(random, &credentials);
+    for _ in 0..random.range(1, 3) {
+        let size = random.range(count / 2, count);
+        let body = credentials[..size].iter().fold(0, |set, c| set | 1 << c);
+        let spare = draw(random, &credentials, 1);
+        let not = if random.one_in(3) { spare & !body } else { 0 };
+        records.push(access(service, body, not));
+    }
     records
 }
 
@@ -298,13 +315,15 @@ fn fill(random: &mut Random, records: &mut Vec<Record>) {
 pub fn accepted(random: &mut Random) -> Vec<Record> {
     let mut records = match random.below(100) {
         0..=1 => Vec::new(),
-        2..=24 => random_rules(random, 6, 10),
-        25..=34 => random_rules(random, 20, 40),
-        35..=64 => alternatives(random),
-        65..=74 => chains(random),
-        75..=81 => ladder(random),
-        82..=90 => edges(random),
-        91..=97 => singles(random),
+        2..=21 => random_rules(random, 6, 10),
+        22..=29 => random_rules(random, 20, 40),
+        30..=32 => random_rules(random, 46, 110),
+        33..=59 => alternatives(random),
+        60..=69 => chains(random),
+        70..=76 => ladder(random),
+        77..=84 => edges(random),
+        85..=90 => singles(random),
+        91..=95 => wide(random),
         _ => {
             let mut records = alternatives(random);
             fill(random, &mut records);
@@ -313,6 +332,18 @@ pub fn accepted(random: &mut Random) -> Vec<Record> {
     };
     decorate(random, &mut records);
     records.truncate(128);
+    records
+}
+
+/// A policy of the written form under which there is much to ask.
+pub fn talkative(random: &mut Random) -> Vec<Record> {
+    let mut records = match random.below(10) {
+        0..=4 => alternatives(random),
+        5 | 6 => singles(random),
+        7 => wide(random),
+        _ => random_rules(random, 3, 16),
+    };
+    decorate(random, &mut records);
     records
 }
 

@@ -1,13 +1,13 @@
 //! Scenarios: a random policy with some calls, or whole lists of rounds.
 
 use crate::calls::{asked_of, ending_of, refusal_of, Call, Memory, DENY, GRANT};
-use crate::clients::{manner, shows, Manner};
+use crate::clients::{manner, shows, Manner, Seen};
 use crate::counts::Kind;
 use crate::damage::{boundary, damaged};
 use crate::definition;
 use crate::demands::{licensed, Played};
 use crate::plain::interface::decode;
-use crate::plain::lists::{askable_count, closes, lacked_count, Accepted};
+use crate::plain::lists::{askable_count, asked, closes, lacked_count, shown_by, Accepted};
 use crate::plain::policy::Record;
 use crate::plain::session::Ending;
 use crate::policies;
@@ -178,15 +178,12 @@ struct List {
 }
 
 impl List {
-    fn asked(&self) -> Option<u16> {
-        self.accepted.last().map(|round| match round.ending {
-            Ending::Ask(asked) => asked,
-            _ => 0,
-        })
-    }
-
-    fn shown(&self) -> u16 {
-        self.accepted.iter().fold(0, |set, round| set | round.p)
+    fn seen(&self) -> Seen {
+        Seen {
+            round: self.rounds + 1,
+            asked: self.accepted.last().map(asked),
+            shown: shown_by(&self.accepted),
+        }
     }
 
     fn closed(&self) -> bool {
@@ -236,7 +233,7 @@ fn play_list(tester: &mut Tester, request: u16, kind: Kind, manner: Manner) -> O
     } else {
         20
     };
-    let mut after_close = tester.random.pick(&[0, 0, 0, 1, 3]);
+    let mut after_close = tester.random.pick(&[0, 0, 0, 0, 0, 0, 1, 3]);
     while list.rounds < stop {
         if list.closed() {
             if after_close == 0 {
@@ -244,8 +241,7 @@ fn play_list(tester: &mut Tester, request: u16, kind: Kind, manner: Manner) -> O
             }
             after_close -= 1;
         }
-        let (asked, shown) = (list.asked(), list.shown());
-        let p = shows(&mut tester.random, manner, asked, shown);
+        let p = shows(&mut tester.random, manner, &list.seen());
         if !play(tester, &mut list, kind, p) {
             return None;
         }
@@ -305,7 +301,11 @@ fn count_list(tester: &mut Tester, list: &List, d: usize, manner: Manner, licenc
 
 /// Lists of clients of every manner under one accepted policy.
 fn lists(tester: &mut Tester) {
-    let records = policies::accepted(&mut tester.random);
+    let records = if tester.random.one_in(2) {
+        policies::talkative(&mut tester.random)
+    } else {
+        policies::accepted(&mut tester.random)
+    };
     tester.set_policy(policies::encode(&records));
     for _ in 0..3 {
         let request = request(tester, &records);
@@ -370,7 +370,7 @@ fn change_policy(tester: &mut Tester, records: &[Record]) {
 
 /// A list whose rounds come with different policies, refused ones among them.
 fn changing_list(tester: &mut Tester) {
-    let records = policies::accepted(&mut tester.random);
+    let records = policies::talkative(&mut tester.random);
     let request = request(tester, &records);
     tester.set_policy(policies::encode(&records));
     let Some(mut list) = open(tester, request) else {
@@ -385,8 +385,7 @@ fn changing_list(tester: &mut Tester) {
         if tester.random.one_in(2) {
             change_policy(tester, &records);
         }
-        let (asked, shown) = (list.asked(), list.shown());
-        let p = shows(&mut tester.random, manner, asked, shown);
+        let p = shows(&mut tester.random, manner, &list.seen());
         if !play(tester, &mut list, Kind::ListChanging, p) {
             return;
         }
@@ -397,13 +396,13 @@ fn changing_list(tester: &mut Tester) {
 /// One scenario.
 pub fn scenario(tester: &mut Tester) {
     match tester.random.below(100) {
-        0..=3 => openings(tester),
-        4..=18 => sets(tester),
-        19..=31 => boundaries(tester),
-        32..=51 => damages(tester),
-        52..=64 => single_rounds(tester),
-        65..=81 => lists(tester),
-        82..=93 => cooperative_lists(tester),
+        0..=2 => openings(tester),
+        3..=15 => sets(tester),
+        16..=29 => boundaries(tester),
+        30..=51 => damages(tester),
+        52..=62 => single_rounds(tester),
+        63..=81 => lists(tester),
+        82..=92 => cooperative_lists(tester),
         _ => changing_list(tester),
     }
     tester.trail = None;

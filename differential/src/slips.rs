@@ -42,10 +42,16 @@ pub enum Slip {
     SetWritten,
     GuardWritten,
     QuestionOverlap,
+    LastRecord,
+    LargeQuestion,
+    SixPasses,
+    SixteenRounds,
+    LastCredential,
+    TwoHundredTrials,
 }
 
 /// Each slip with what is wrong.
-pub const SLIPS: [(Slip, &str); 33] = [
+pub const SLIPS: [(Slip, &str); 39] = [
     (
         Slip::BreachUnread,
         "grants on the service alone, the breach mark unread",
@@ -121,6 +127,18 @@ pub const SLIPS: [(Slip, &str); 33] = [
         Slip::QuestionOverlap,
         "soundness: Q may share credentials with N",
     ),
+    (
+        Slip::LastRecord,
+        "record 127 tested, but no rule of the model",
+    ),
+    (
+        Slip::LargeQuestion,
+        "no set of more than six credentials tried",
+    ),
+    (Slip::SixPasses, "at most six passes over a level"),
+    (Slip::SixteenRounds, "denies in round 17 whatever is shown"),
+    (Slip::LastCredential, "credential 15 never asked for"),
+    (Slip::TwoHundredTrials, "gives up after 200 candidates"),
 ];
 
 /// The plain version with a slip in it.
@@ -206,7 +224,9 @@ impl Slipped {
         if let Some((k, number)) = self.first_fault(&records) {
             return Err(Refusal::by_writer(number, k));
         }
-        let (access, disclosure) = records.iter().partition(|record| record.kind == 1);
+        let most = if self.is(Slip::LastRecord) { 127 } else { 128 };
+        let read = records.iter().take(most);
+        let (access, disclosure) = read.partition(|record| record.kind == 1);
         Ok(Policy { access, disclosure })
     }
 
@@ -228,7 +248,12 @@ impl Slipped {
             let of_level = |rule: &&Record| self.is(Slip::NotTooEarly) || level(rule.head) == this;
             let rules: Vec<&Record> = access.iter().filter(of_level).collect();
             let below = set;
-            loop {
+            let passes = match self.0 {
+                Slip::OnePass => 1,
+                Slip::SixPasses => 6,
+                _ => usize::MAX,
+            };
+            for _ in 0..passes {
                 let last = set;
                 let read = if self.is(Slip::NotTooEarly) {
                     set
@@ -236,7 +261,7 @@ impl Slipped {
                     below
                 };
                 set = self.pass(&rules, set, read);
-                if set == last || self.is(Slip::OnePass) {
+                if set == last {
                     break;
                 }
             }
@@ -265,10 +290,10 @@ impl Slipped {
             return self.disclosable(&left, shown) & !shown & !declined;
         }
         let open = self.disclosable(&rules.disclosure, shown) & !shown;
-        if self.is(Slip::AskedAgain) {
-            open
-        } else {
-            open & !declined
+        match self.0 {
+            Slip::AskedAgain => open,
+            Slip::LastCredential => open & !declined & 0x7fff,
+            _ => open & !declined,
         }
     }
 
@@ -298,6 +323,11 @@ impl Slipped {
         }
         let turned = if self.is(Slip::LargestTie) { 0xffff } else { 0 };
         subsets.sort_by_key(|set| (set.count_ones(), *set ^ turned));
+        match self.0 {
+            Slip::LargeQuestion => subsets.retain(|set| set.count_ones() <= 6),
+            Slip::TwoHundredTrials => subsets.truncate(200),
+            _ => {}
+        }
         subsets.into_iter().find(|set| opens(*set))
     }
 
@@ -363,7 +393,9 @@ impl Slipped {
         if self.is(Slip::RequestCut) {
             next.request &= 0xff;
         }
-        let ending = if self.unlocks(rules, next.request, next.shown) {
+        let ending = if self.is(Slip::SixteenRounds) && next.count == 17 {
+            Ending::Deny
+        } else if self.unlocks(rules, next.request, next.shown) {
             Ending::Grant
         } else if self.is(Slip::Repeats) && question != 0 {
             Ending::Ask(question)

@@ -14,7 +14,7 @@ use std::sync::atomic::Ordering;
 const GUARD: usize = 16;
 
 /// The definition is asked in one of so many cases, where its cost is at most this.
-const OPINION_IN: usize = 24;
+const OPINION_IN: usize = 10;
 const OPINION_COST: usize = 100_000;
 
 pub struct Tester<'a> {
@@ -193,6 +193,9 @@ impl<'a> Tester<'a> {
     /// Writes a finding down with the policy and list as they are.
     pub fn found(&mut self, title: String, call: Call, before: Memory, answers: Vec<String>) {
         self.counts.disagreements += 1;
+        if self.counts.first_disagreement == 0 {
+            self.counts.first_disagreement = self.counts.cases();
+        }
         self.shared.report(&Finding {
             title,
             policy: self.policy.clone(),

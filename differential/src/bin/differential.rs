@@ -129,7 +129,7 @@ fn find_out(options: &Options, slip: Slip) -> Option<u64> {
     while tester.counts.cases() < options.slip_cases && !shared.stopped() {
         scenario(&mut tester);
     }
-    shared.stopped().then(|| tester.counts.cases())
+    shared.stopped().then_some(tester.counts.first_disagreement)
 }
 
 /// Every slip must be found out; the same code without a slip must not be.
