@@ -8,6 +8,7 @@ pub const USAGE: &str = "options of differential/run:
   --threads T      threads (default 2)
   --bench-runs N   runs of the bench program (default 1000; 0: none)
   --slips          test wrong versions instead of the gate; each must be found out
+  --slip N         test the N-th wrong version as if it were the gate, its disagreements written down
   --slip-cases N   cases in which a slip must be found out (default 300000)
   --replay DIR     replay a disagreement that was written down
   --help           this text";
@@ -18,6 +19,7 @@ pub struct Options {
     pub threads: u64,
     pub bench_runs: u64,
     pub slips: bool,
+    pub slip: u64,
     pub slip_cases: u64,
     pub replay: Option<PathBuf>,
     pub help: bool,
@@ -33,6 +35,7 @@ impl Default for Options {
             threads: 2,
             bench_runs: 1000,
             slips: false,
+            slip: 0,
             slip_cases: 300_000,
             replay: None,
             help: false,
@@ -60,6 +63,7 @@ pub fn parse(mut words: impl Iterator<Item = String>) -> Result<Options, String>
             "--threads" => options.threads = number(&word, words.next())?.max(1),
             "--bench-runs" => options.bench_runs = number(&word, words.next())?,
             "--slips" => options.slips = true,
+            "--slip" => options.slip = number(&word, words.next())?,
             "--slip-cases" => options.slip_cases = number(&word, words.next())?,
             "--replay" => {
                 options.replay = Some(words.next().ok_or("--replay needs a folder")?.into())

@@ -107,13 +107,18 @@ impl Shared {
         for line in &finding.answers {
             println!("  {line}");
         }
-        if finding.trail.is_some() {
+        if bench_replays(finding) {
             println!("  replay: (cd {place} && {} < input)", self.bench.display());
         } else {
             println!("  the bench program cannot be handed this session or call; see below");
         }
         println!("  replay both versions: differential/run --replay {place}");
     }
+}
+
+/// Whether the bench program gets to this call by itself.
+fn bench_replays(finding: &Finding) -> bool {
+    finding.trail.is_some() || matches!(finding.call, Call::Check | Call::Open(_))
 }
 
 /// What the bench program would be given.

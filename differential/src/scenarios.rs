@@ -53,6 +53,7 @@ fn credentials(tester: &mut Tester, records: &[Record]) -> u16 {
 }
 
 fn openings(tester: &mut Tester) {
+    tester.set_policy(Vec::new());
     for _ in 0..6 {
         let request = match tester.random.below(4) {
             0 => tester.random.pick(&sessions::NO_SERVICES),

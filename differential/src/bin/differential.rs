@@ -1,6 +1,7 @@
 //! The differential tests: the gate against document 01 in plain Rust.
 
 use differential::bench_runs::bench_runs;
+use differential::calls::Version;
 use differential::counts::Counts;
 use differential::gate::Gate;
 use differential::options::{parse, Options, USAGE};
@@ -20,12 +21,21 @@ use std::time::{Duration, Instant};
 /// A run of fewer cases need not have brought everything up.
 const ENOUGH_FOR_COVERAGE: u64 = 200_000;
 
+/// The gate, or the wrong version that was asked for.
+fn tested(options: &Options) -> Box<dyn Version> {
+    let slip = options.slip.checked_sub(1).map(|place| place as usize);
+    match slip.and_then(|place| SLIPS.get(place)) {
+        Some((slip, _)) => Box::new(Slipped(*slip)),
+        None => Box::new(Gate),
+    }
+}
+
 /// One thread's share of the cases.
 fn test(shared: &Shared, options: &Options, thread: u64) -> Counts {
     let first = options.cases * thread / options.threads;
     let share = options.cases * (thread + 1) / options.threads - first;
     let random = Random::new(options.seed, thread);
-    let mut tester = Tester::new(Box::new(Gate), random, shared, true);
+    let mut tester = Tester::new(tested(options), random, shared, true);
     while tester.counts.cases() < share && !shared.stopped() {
         scenario(&mut tester);
     }
@@ -159,11 +169,9 @@ fn test_slips(options: &Options) -> Result<bool, String> {
 
 fn print_slips(options: &Options, control: Option<u64>, results: &[Option<u64>]) -> bool {
     println!("seed {}: found out in case", options.seed);
-    for ((_, text), found) in SLIPS.iter().zip(results) {
-        match found {
-            Some(case) => println!("  {case:>8}  {text}"),
-            None => println!("  NOT FOUND {text}"),
-        }
+    for (place, ((_, text), found)) in SLIPS.iter().zip(results).enumerate() {
+        let case = found.map_or("never".to_string(), |case| case.to_string());
+        println!("  {case:>8}  slip {}: {text}", place + 1);
     }
     match control {
         Some(case) => println!("the same code without a slip disagrees in case {case}"),
@@ -178,7 +186,7 @@ fn print_slips(options: &Options, control: Option<u64>, results: &[Option<u64>])
 }
 
 fn run() -> Result<bool, String> {
-    let options = parse(std::env::args().skip(1))?;
+    let options = parse(std::env::args().skip(1)).map_err(|e| format!("{e}\n{USAGE}"))?;
     if options.help {
         println!("{USAGE}");
         return Ok(true);
@@ -195,7 +203,7 @@ fn main() -> ExitCode {
         Ok(true) => ExitCode::SUCCESS,
         Ok(false) => ExitCode::FAILURE,
         Err(error) => {
-            eprintln!("differential: {error}\n{USAGE}");
+            eprintln!("differential: {error}");
             ExitCode::from(2)
         }
     }
