@@ -17,5 +17,6 @@ pub mod report;
 pub mod scenarios;
 pub mod sessions;
 pub mod slips;
+pub mod stack;
 pub mod tester;
 pub mod tuned;
