@@ -129,20 +129,34 @@ fn parse(policy: &[u8]) -> Parsed {
     parsed
 }
 
-/// Passes over rules until one adds nothing; "not" is read of the set as it was before.
+/// Passes over rules until one adds nothing; "not" is read of the set as it was before. What is kept is what the set lacks. A jump,
+/// not a choice of two values: a rule that does not apply, as most do not, then leaves nothing for the next one to wait for.
+#[inline(always)]
 fn close(rules: &[Rule], before: u64) -> u64 {
-    let mut set = before;
+    let mut lacks = !before;
     loop {
-        let last = set;
-        for rule in rules {
-            if rule.negative & before | rule.positive & !set == 0 {
-                set |= rule.head;
-            }
+        let last = lacks;
+        let (pairs, rest) = rules.as_chunks::<2>();
+        for [first, second] in pairs {
+            lacks = apply(first, before, lacks);
+            lacks = apply(second, before, lacks);
         }
-        if set == last {
-            return set;
+        for rule in rest {
+            lacks = apply(rule, before, lacks);
+        }
+        if lacks == last {
+            return !lacks;
         }
     }
+}
+
+#[inline(always)]
+fn apply(rule: &Rule, before: u64, lacks: u64) -> u64 {
+    if rule.negative & before | rule.positive & lacks == 0 {
+        std::hint::black_box(());
+        return lacks & !rule.head;
+    }
+    lacks
 }
 
 impl Parsed {
@@ -152,30 +166,48 @@ impl Parsed {
         Ok(parse(policy))
     }
 
-    fn level(&self, level: usize) -> &[Rule] {
-        &self.access[self.starts[level]..self.starts[level + 1]]
+    /// A level, by number so that each level's loop is code of its own: jumps are then foretold level by level.
+    #[inline(always)]
+    fn finish<const LEVEL: usize>(&self, set: u64) -> u64 {
+        close(
+            &self.access[self.starts[LEVEL]..self.starts[LEVEL + 1]],
+            set,
+        )
     }
 
     pub fn model(&self, credentials: u16) -> u64 {
-        (2..9).fold(u64::from(credentials), |set, level| {
-            close(self.level(level), set)
-        })
+        let set = self.finish::<2>(u64::from(credentials));
+        let set = self.finish::<3>(set);
+        let set = self.finish::<4>(set);
+        let set = self.finish::<5>(set);
+        let set = self.finish::<6>(set);
+        let set = self.finish::<7>(set);
+        self.finish::<8>(set)
     }
 
-    /// Stops at the service's level where the service is not in the model.
+    /// A level; nothing where the service is of this level and not in the model.
+    #[inline(always)]
+    fn step<const LEVEL: usize>(&self, service: u16, set: u64) -> Option<u64> {
+        let set = self.finish::<LEVEL>(set);
+        let lacks = usize::from(service / 8) == LEVEL && set >> service & 1 == 0;
+        (!lacks).then_some(set)
+    }
+
+    /// The model, if the service is in it.
+    #[inline(always)]
+    fn model_with(&self, service: u16, credentials: u16) -> Option<u64> {
+        let set = self.step::<2>(service, u64::from(credentials))?;
+        let set = self.step::<3>(service, set)?;
+        let set = self.step::<4>(service, set)?;
+        let set = self.step::<5>(service, set)?;
+        let set = self.step::<6>(service, set)?;
+        let set = self.step::<7>(service, set)?;
+        self.step::<8>(service, set)
+    }
+
     pub fn unlocks(&self, service: u16, credentials: u16) -> bool {
-        let own = usize::from(service / 8);
-        let mut set = u64::from(credentials);
-        for level in 2..=own {
-            set = close(self.level(level), set);
-        }
-        if set >> service & 1 == 0 {
-            return false;
-        }
-        for level in own + 1..9 {
-            set = close(self.level(level), set);
-        }
-        set >> 63 == 0
+        self.model_with(service, credentials)
+            .is_some_and(|set| set >> 63 == 0)
     }
 
     pub fn disclosable(&self, shown: u16) -> u16 {

@@ -302,13 +302,14 @@ fn show(depth: Option<usize>) -> String {
 
 fn run() -> Result<(), String> {
     let folder = std::env::args().nth(1).map(PathBuf::from);
-    let folder = folder.ok_or("usage: benchmark FOLDER, the one with the policies")?;
+    let folder = folder.ok_or("usage: benchmark FOLDER [WORD]: only items with this word")?;
+    let word = std::env::args().nth(2).unwrap_or_default();
     let full = full_policies(&folder)?;
     println!("processor: {}", processor());
     let mut times = Vec::new();
-    for item in items(&full) {
+    for item in items(&full).iter().filter(|item| item.name.contains(&word)) {
         eprintln!("{}", item.name);
-        times.push(measure(&item)?);
+        times.push(measure(item)?);
     }
     table("Median", &times, |item| item.median);
     table("Minimum", &times, |item| item.least);
