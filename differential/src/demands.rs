@@ -7,7 +7,7 @@ use crate::plain::lists::{
 use crate::plain::model::unlocks;
 use crate::plain::policy::Policy;
 use crate::plain::session::Ending;
-use crate::tuned::Parsed;
+use crate::tuned::{check, ending};
 
 /// A list of rounds that one policy answered, all rounds counted; the accepted ones are the first of them.
 pub struct Played<'a> {
@@ -61,12 +61,12 @@ impl Played<'_> {
 
     /// Each answer once more: granted where the shown unlock, denied exactly where no set does, else the preferred set asked.
     fn answers(&self) -> Option<String> {
-        let Ok(parsed) = Parsed::new(self.bytes) else {
+        let Ok(records) = check(self.bytes) else {
             return Some("policy refused".to_string());
         };
         for k in 1..=self.accepted.len() {
             let past = &self.accepted[..k];
-            let want = parsed.ending(self.request, shown_by(past), declined_by(past));
+            let want = ending(records, self.request, shown_by(past), declined_by(past));
             let got = past[k - 1].ending;
             if want != got {
                 return Some(format!("round {k} ends in {got:?}, by the list {want:?}"));

@@ -76,7 +76,7 @@ fn check_item(name: &str, policy: &[u8]) -> Item {
         versions: [
             Box::new(move || gate::check(black_box(&a)).into()),
             Box::new(move || check(black_box(&b)).map_or(1, |_| 0)),
-            Box::new(move || tuned::check(black_box(&c)).map_or(1, |()| 0)),
+            Box::new(move || tuned::check(black_box(&c)).map_or(1, |_| 0)),
         ],
     }
 }
@@ -90,9 +90,7 @@ fn model_item(name: &str, policy: &[u8], credentials: u16) -> Item {
             Box::new(move || {
                 check(black_box(&b)).map_or(0, |p| model(&p.access, black_box(credentials)))
             }),
-            Box::new(move || {
-                tuned::Parsed::new(black_box(&c)).map_or(0, |p| p.model(black_box(credentials)))
-            }),
+            Box::new(move || tuned::model(black_box(&c), black_box(credentials)).unwrap_or(0)),
         ],
     }
 }
@@ -110,8 +108,8 @@ fn disclosable_item(name: &str, policy: &[u8], shown: u16) -> Item {
                 check(black_box(&b)).map_or(0, set).into()
             }),
             Box::new(move || {
-                let set = |p: tuned::Parsed| p.disclosable(black_box(shown));
-                tuned::Parsed::new(black_box(&c)).map_or(0, set).into()
+                let set = tuned::disclosable(black_box(&c), black_box(shown));
+                set.unwrap_or(0).into()
             }),
         ],
     }
