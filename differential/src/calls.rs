@@ -64,6 +64,10 @@ impl Memory {
         self.0[PLACE..PLACE + 10].copy_from_slice(&bytes);
     }
 
+    pub fn model(&self) -> u64 {
+        u64::from_le_bytes(self.0[PLACE..PLACE + 8].try_into().expect("eight bytes"))
+    }
+
     pub fn set_model(&mut self, set: u64) {
         self.0[PLACE..PLACE + 8].copy_from_slice(&set.to_le_bytes());
     }

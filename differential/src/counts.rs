@@ -22,9 +22,10 @@ pub enum Kind {
     ListClient,
     ListCooperative,
     ListChanging,
+    Exhaustive,
 }
 
-pub const KINDS: [&str; 17] = [
+pub const KINDS: [&str; 18] = [
     "check, policy of the written form",
     "check, policy at a boundary",
     "check, damaged policy",
@@ -42,12 +43,13 @@ pub const KINDS: [&str; 17] = [
     "round of a list, any client",
     "round of a list, cooperative client",
     "round of a list, policies changing",
+    "every length, head, body atom, request; small sessions",
 ];
 
 /// Counters, each of one thread; `add` joins them.
 #[derive(Clone, Default)]
 pub struct Counts {
-    pub kinds: [u64; 17],
+    pub kinds: [u64; 18],
     /// Replies of gate_check by refusal number, 0 accepted.
     pub policies: [u64; 7],
     /// Replies of gate_open: fresh sessions, refusals 7.

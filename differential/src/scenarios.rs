@@ -141,15 +141,26 @@ fn single_rounds(tester: &mut Tester) {
     for _ in 0..8 {
         let request = request(tester, &records);
         let (kind, session) = any_session(tester, request, named(&records));
+        let memory = tester.memory_with(session);
+        rounds_from(tester, &records, kind, memory);
+    }
+}
+
+/// A round, and sometimes the next ones in the session that it gives.
+fn rounds_from(tester: &mut Tester, records: &[Record], kind: Kind, mut memory: Memory) {
+    loop {
         let p = match tester.random.below(3) {
             0 => 0,
-            _ => credentials(tester, &records),
+            _ => credentials(tester, records),
         };
-        let memory = tester.memory_with(session);
-        let after = tester.case(kind, Call::Round(p), memory);
-        if let Some((reply, memory)) = after {
-            still_sound(tester, reply, Call::Round(p), memory);
+        let Some((reply, after)) = tester.case(kind, Call::Round(p), memory) else {
+            return;
+        };
+        still_sound(tester, reply, Call::Round(p), after);
+        if refusal_of(reply) != 0 || tester.random.one_in(2) {
+            return;
         }
+        memory = after;
     }
 }
 

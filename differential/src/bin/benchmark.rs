@@ -1,6 +1,7 @@
 //! The benchmark: the gate, the plain version and the tuned version, on the same inputs in the same run.
 
 use differential::gate;
+use differential::marked::policy_a;
 use differential::plain::disclosure::disclosable;
 use differential::plain::interface::{decode, encode, ending_reply};
 use differential::plain::model::model;
@@ -19,7 +20,7 @@ const SAMPLE: Duration = Duration::from_micros(300);
 
 /// Samples of short and of long calls.
 const SHORT_SAMPLES: usize = 201;
-const LONG_SAMPLES: usize = 15;
+const LONG_SAMPLES: usize = 21;
 
 /// One thing that is timed: three versions, each giving a number that must be the same.
 struct Item {
@@ -32,18 +33,6 @@ struct Times {
     name: String,
     median: [f64; 3],
     least: [f64; 3],
-}
-
-/// Document 01: "Policy A: 16 if 0, 1; 16 if 2, not 3; 63 if 0, 2; disclosure 0 always; 1 if 0; 2 always."
-fn policy_a() -> Vec<u8> {
-    policy_bytes(&[
-        access(16, 0b11, 0),
-        access(16, 0b100, 0b1000),
-        access(63, 0b101, 0),
-        disclosure(0, 0),
-        disclosure(1, 0b1),
-        disclosure(2, 0),
-    ])
 }
 
 /// A policy of 44 records: eight askable credentials, roles on three levels, each with "not"; the service is 48.

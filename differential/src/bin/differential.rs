@@ -3,14 +3,19 @@
 use differential::bench_runs::bench_runs;
 use differential::calls::Version;
 use differential::counts::Counts;
+use differential::definition::Definition;
+use differential::exhaustive::exhaustive;
 use differential::gate::Gate;
+use differential::marked::marked;
 use differential::options::{parse, Options, USAGE};
+use differential::plain::interface::Plain;
 use differential::random::Random;
 use differential::replay::replay;
 use differential::report::Shared;
 use differential::scenarios::scenario;
 use differential::slips::{Slip, Slipped, SLIPS};
 use differential::tester::Tester;
+use differential::tuned::Tuned;
 use std::io::IsTerminal;
 use std::process::ExitCode;
 use std::sync::atomic::{AtomicBool, AtomicUsize, Ordering};
@@ -36,6 +41,9 @@ fn test(shared: &Shared, options: &Options, thread: u64) -> Counts {
     let share = options.cases * (thread + 1) / options.threads - first;
     let random = Random::new(options.seed, thread);
     let mut tester = Tester::new(tested(options), random, shared, true);
+    if thread == 0 && options.cases >= ENOUGH_FOR_COVERAGE {
+        exhaustive(&mut tester);
+    }
     while tester.counts.cases() < share && !shared.stopped() {
         scenario(&mut tester);
     }
@@ -109,8 +117,30 @@ fn run_threads(shared: &Shared, options: &Options) -> Result<Counts, String> {
     })
 }
 
+/// Document 01's own examples, of the version under test and of the plain one.
+fn test_marked(options: &Options) -> Result<(), String> {
+    let mut tested = tested(options);
+    let mut versions: [(&str, &mut dyn Version); 4] = [
+        ("tested", &mut *tested),
+        ("plain", &mut Plain),
+        ("tuned", &mut Tuned),
+        ("definition", &mut Definition),
+    ];
+    for (name, version) in &mut versions {
+        for (case, right) in marked(*version) {
+            if !right {
+                return Err(format!("document 01's {case}: the {name} version fails"));
+            }
+        }
+    }
+    Ok(())
+}
+
 fn test_gate(options: &Options) -> Result<bool, String> {
     let start = Instant::now();
+    if options.slip == 0 {
+        test_marked(options)?;
+    }
     let shared = shared(options, false);
     let total = run_threads(&shared, options)?;
     let seconds = start.elapsed().as_secs_f64();

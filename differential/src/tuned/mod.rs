@@ -15,7 +15,7 @@ use rules::{Access, Disclosures};
 use search::preferred;
 
 pub fn model(policy: &[u8], credentials: u16) -> Result<u64, Refusal> {
-    Ok(Access::new(check(policy)?).model(credentials))
+    Ok(Access::new(check(policy)?).levels().model(credentials))
 }
 
 pub fn disclosable(policy: &[u8], shown: u16) -> Result<u16, Refusal> {
@@ -25,11 +25,12 @@ pub fn disclosable(policy: &[u8], shown: u16) -> Result<u16, Refusal> {
 /// How a round under accepted records ends with this shown and declined.
 pub fn ending(records: &[[u8; 18]], service: u16, shown: u16, declined: u16) -> Ending {
     let access = Access::new(records);
-    if access.unlocks(service, shown) {
+    let levels = access.levels();
+    if levels.unlocks(service, shown) {
         return Ending::Grant;
     }
     let disclosable = Disclosures::new(records).disclosable(shown);
-    match preferred(&access, service, shown, disclosable & !shown & !declined) {
+    match preferred(&levels, service, shown, disclosable & !shown & !declined) {
         Some(asked) => Ending::Ask(asked),
         None => Ending::Deny,
     }

@@ -80,10 +80,21 @@ impl Access {
         Access { rules, starts }
     }
 
+    /// The rules level by level.
+    pub fn levels(&self) -> Levels<'_> {
+        let level = |l: usize| &self.rules[self.starts[l]..self.starts[l + 1]];
+        Levels(std::array::from_fn(level))
+    }
+}
+
+/// The rules of each level.
+pub struct Levels<'a>([&'a [Rule]; 9]);
+
+impl Levels<'_> {
     /// A level, by number so that each level's loop is code of its own: jumps are then foretold level by level.
     #[inline(always)]
     fn finish<const LEVEL: usize>(&self, set: u64) -> u64 {
-        close(&self.rules[self.starts[LEVEL]..self.starts[LEVEL + 1]], set)
+        close(self.0[LEVEL], set)
     }
 
     pub fn model(&self, credentials: u16) -> u64 {

@@ -1,6 +1,6 @@
 //! The preferred question.
 
-use super::rules::Access;
+use super::rules::Levels;
 
 /// The n lowest members of a set, for each n up to its size.
 fn lowest_members(set: u16) -> [u16; 17] {
@@ -25,12 +25,12 @@ fn next_of_size(set: u16, subset: u16, size: usize, lowest: &[u16; 17]) -> Optio
 }
 
 /// Sizes rise, and within a size each subset leads straight to the next.
-pub fn preferred(access: &Access, service: u16, shown: u16, may_ask: u16) -> Option<u16> {
+pub fn preferred(levels: &Levels, service: u16, shown: u16, may_ask: u16) -> Option<u16> {
     let lowest = lowest_members(may_ask);
     for size in 1..=may_ask.count_ones() as usize {
         let mut next = Some(lowest[size]);
         while let Some(subset) = next {
-            if access.unlocks(service, shown | subset) {
+            if levels.unlocks(service, shown | subset) {
                 return Some(subset);
             }
             next = next_of_size(may_ask, subset, size, &lowest);
