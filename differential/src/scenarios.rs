@@ -14,6 +14,7 @@ use crate::policies;
 use crate::report::Trail;
 use crate::sessions;
 use crate::tester::Tester;
+use crate::tuned;
 
 /// The services that a policy has rules for.
 fn services(records: &[Record]) -> Vec<u16> {
@@ -41,6 +42,20 @@ fn request(tester: &mut Tester, records: &[Record]) -> u16 {
     } else {
         tester.random.pick(&services)
     }
+}
+
+/// A service for which a client who shows nothing is asked something, if a few tries find one.
+fn request_with_question(tester: &mut Tester, records: &[Record]) -> u16 {
+    let mut service = request(tester, records);
+    for _ in 0..4 {
+        let accepted = tuned::check(tester.policy());
+        let asks = accepted.is_ok_and(|all| !closes(tuned::ending(all, service, 0, 0)));
+        if asks || tester.random.one_in(5) {
+            break;
+        }
+        service = request(tester, records);
+    }
+    service
 }
 
 /// Credentials of the policy's, or any.
@@ -320,7 +335,7 @@ fn lists(tester: &mut Tester) {
     };
     tester.set_policy(policies::encode(&records));
     for _ in 0..3 {
-        let request = request(tester, &records);
+        let request = request_with_question(tester, &records);
         let manner = manner(&mut tester.random);
         if let Some(list) = play_list(tester, request, Kind::ListClient, manner) {
             hold_to_demands(tester, &list, manner);
@@ -383,8 +398,8 @@ fn change_policy(tester: &mut Tester, records: &[Record]) {
 /// A list whose rounds come with different policies, refused ones among them.
 fn changing_list(tester: &mut Tester) {
     let records = policies::talkative(&mut tester.random);
-    let request = request(tester, &records);
     tester.set_policy(policies::encode(&records));
+    let request = request_with_question(tester, &records);
     let Some(mut list) = open(tester, request) else {
         return;
     };
