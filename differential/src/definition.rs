@@ -245,7 +245,7 @@ pub fn cost(policy: &Policy, call: Call) -> usize {
     let rules = 1 + policy.access.len() + policy.disclosure.len();
     match call {
         Call::Disclosable(_) => rules << asked,
-        Call::Round(_) => rules * rules << asked,
+        Call::Round(_) => (rules * rules) << asked,
         _ => rules * rules,
     }
 }

@@ -12,6 +12,7 @@ pub mod gate;
 pub mod marked;
 pub mod options;
 pub mod plain;
+pub mod play;
 pub mod policies;
 pub mod random;
 pub mod replay;

@@ -113,7 +113,7 @@ impl<'a> Tester<'a> {
         let (reply, memory, kept) = self.ask_subject(call, before);
         let (wanted, wanted_memory) = self.ask(&mut Plain, call, before);
         self.counts.case(kind, call, wanted);
-        if self.counts.cases() % 64 == 0 {
+        if self.counts.cases().is_multiple_of(64) {
             self.shared.cases.fetch_add(64, Ordering::Relaxed);
         }
         if reply != wanted || memory != wanted_memory || !kept {

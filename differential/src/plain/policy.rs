@@ -133,7 +133,7 @@ pub fn check(policy: &[u8]) -> Result<Policy, Refusal> {
     if policy.len() > MOST_BYTES {
         return Err(Refusal::by_writer(1, 128));
     }
-    if policy.len() % RECORD_BYTES != 0 {
+    if !policy.len().is_multiple_of(RECORD_BYTES) {
         return Err(Refusal::by_writer(2, policy.len() / RECORD_BYTES));
     }
     let mut rules = Policy::default();

@@ -72,7 +72,7 @@ impl Slipped {
         if policy.len() > 2304 - usize::from(self.is(Slip::LengthBound)) {
             return Err(Refusal::by_writer(1, 128));
         }
-        if policy.len() % 18 != 0 {
+        if !policy.len().is_multiple_of(18) {
             return Err(Refusal::by_writer(2, policy.len() / 18));
         }
         let records: Vec<Record> = policy.chunks(18).map(|bytes| self.read(bytes)).collect();

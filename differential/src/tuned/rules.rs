@@ -24,8 +24,9 @@ fn rule(bytes: &[u8; 18]) -> Rule {
     }
 }
 
-/// Passes over rules until one adds nothing; "not" is read of the set as it was before. What is kept is what the set lacks. A jump,
-/// not a choice of two values: a rule that does not apply, as most do not, then leaves nothing for the next one to wait for.
+/// Passes over rules until one adds nothing; "not" is read of the set as it was before. What is kept is what the set lacks. `apply`
+/// jumps, and does not choose between two values: a rule that does not apply, as most do not, then leaves nothing for the next one
+/// to wait for.
 #[inline(always)]
 fn close(rules: &[Rule], before: u64) -> u64 {
     let mut lacks = !before;
