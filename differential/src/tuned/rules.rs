@@ -10,9 +10,10 @@ struct Rule {
     negative: u64,
 }
 
+/// Adds nothing, and never applies before the breach mark is there.
 const NO_RULE: Rule = Rule {
     head: 0,
-    positive: 0,
+    positive: 1 << 63,
     negative: 0,
 };
 
@@ -28,17 +29,13 @@ fn rule(bytes: &[u8; 18]) -> Rule {
 /// jumps, and does not choose between two values: a rule that does not apply, as most do not, then leaves nothing for the next one
 /// to wait for.
 #[inline(always)]
-fn close(rules: &[Rule], before: u64) -> u64 {
+fn close(rules: &[[Rule; 2]], before: u64) -> u64 {
     let mut lacks = !before;
     loop {
         let last = lacks;
-        let (pairs, rest) = rules.as_chunks::<2>();
-        for [first, second] in pairs {
+        for [first, second] in rules {
             lacks = apply(first, before, lacks);
             lacks = apply(second, before, lacks);
-        }
-        for rule in rest {
-            lacks = apply(rule, before, lacks);
         }
         if lacks == last {
             return !lacks;
@@ -55,27 +52,27 @@ fn apply(rule: &Rule, before: u64, lacks: u64) -> u64 {
     lacks
 }
 
-/// Access rules sorted by level: level l's from `starts[l]` to `starts[l + 1]`.
+/// Access rules sorted by level, two by two: level l's from `starts[l]` to `starts[l + 1]`.
 pub struct Access {
-    rules: Vec<Rule>,
+    rules: Vec<[Rule; 2]>,
     starts: [usize; 10],
 }
 
 impl Access {
-    /// A counting sort by level.
+    /// A counting sort by level; where a level has an odd number of rules, its last place is no rule.
     pub fn new(records: &[[u8; 18]]) -> Access {
-        let mut starts = [0; 10];
+        let mut starts = [0usize; 10];
         for bytes in records.iter().filter(|bytes| bytes[0] == 1) {
             starts[level(bytes[1]) + 1] += 1;
         }
         for level in 1..10 {
-            starts[level] += starts[level - 1];
+            starts[level] = starts[level - 1] + starts[level].div_ceil(2);
         }
-        let mut rules = vec![NO_RULE; starts[9]];
-        let mut free = starts;
+        let mut rules = vec![[NO_RULE; 2]; starts[9]];
+        let mut free = starts.map(|start| 2 * start);
         for bytes in records.iter().filter(|bytes| bytes[0] == 1) {
             let place = &mut free[level(bytes[1])];
-            rules[*place] = rule(bytes);
+            rules[*place / 2][*place % 2] = rule(bytes);
             *place += 1;
         }
         Access { rules, starts }
@@ -89,7 +86,7 @@ impl Access {
 }
 
 /// The rules of each level.
-pub struct Levels<'a>([&'a [Rule]; 9]);
+pub struct Levels<'a>([&'a [[Rule; 2]]; 9]);
 
 impl Levels<'_> {
     /// A level, by number so that each level's loop is code of its own: jumps are then foretold level by level.
@@ -134,14 +131,16 @@ impl Levels<'_> {
     }
 }
 
-/// Disclosure rules.
-pub struct Disclosures(Vec<Rule>);
+/// Disclosure rules, two by two.
+pub struct Disclosures(Vec<[Rule; 2]>);
 
 impl Disclosures {
     pub fn new(records: &[[u8; 18]]) -> Disclosures {
-        let mut rules = Vec::with_capacity(records.len());
-        for bytes in records.iter().filter(|bytes| bytes[0] == 2) {
-            rules.push(rule(bytes));
+        let mut rules = Vec::with_capacity(records.len().div_ceil(2));
+        let mut of_kind = records.iter().filter(|bytes| bytes[0] == 2);
+        while let Some(bytes) = of_kind.next() {
+            let second = of_kind.next().map_or(NO_RULE, rule);
+            rules.push([rule(bytes), second]);
         }
         Disclosures(rules)
     }
