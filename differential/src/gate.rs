@@ -11,23 +11,50 @@ extern "C" {
     fn gate_round(policy: *const u8, length: usize, session: *mut u8, shown: u16) -> u32;
 }
 
-/// The gate as a version to be called.
-pub struct Gate;
+/// The gate as a version to be called. Sessions are lent at every alignment in turn.
+#[derive(Default)]
+pub struct Gate {
+    shift: usize,
+}
+
+/// Calls with the memory moved by so many bytes, and moves it back.
+fn shifted(shift: usize, memory: &mut Memory, call: impl FnOnce(*mut u8) -> u32) -> u32 {
+    let mut moved = [0; 40];
+    moved[shift..shift + 32].copy_from_slice(&memory.0);
+    let reply = call(moved[shift + PLACE..].as_mut_ptr());
+    memory.0.copy_from_slice(&moved[shift..shift + 32]);
+    reply
+}
 
 impl Version for Gate {
     fn call(&mut self, call: Call, policy: &mut [u8], memory: &mut Memory) -> u32 {
+        self.shift = (self.shift + 1) % 8;
+        let shift = match call {
+            Call::Open(_) | Call::Round(_) => self.shift,
+            _ => return call_set(call, policy, memory),
+        };
         let (bytes, length) = (policy.as_mut_ptr().cast_const(), policy.len());
-        let place = memory.0[PLACE..].as_mut_ptr();
-        // SAFETY: the policy's pointer is valid for its length; the place is aligned to 8 and has 24 bytes after it; the two are
-        // borrowed mutably and so do not overlap.
-        unsafe {
+        // SAFETY: the policy's pointer is valid for its length; the session's has 24 bytes after it, in memory of its own.
+        shifted(shift, memory, |place| unsafe {
             match call {
-                Call::Check => gate_check(bytes, length),
-                Call::Model(credentials) => gate_model(bytes, length, credentials, place.cast()),
-                Call::Disclosable(shown) => gate_disclosable(bytes, length, shown, place.cast()),
                 Call::Open(request) => gate_open(request, place),
-                Call::Round(shown) => gate_round(bytes, length, place, shown),
+                _ => gate_round(bytes, length, place, call.argument()),
             }
+        })
+    }
+}
+
+/// The calls that write a set or nothing.
+fn call_set(call: Call, policy: &mut [u8], memory: &mut Memory) -> u32 {
+    let (bytes, length) = (policy.as_mut_ptr().cast_const(), policy.len());
+    let place = memory.0[PLACE..].as_mut_ptr();
+    // SAFETY: the policy's pointer is valid for its length; the place is aligned to 8 and has 24 bytes after it; the two are
+    // borrowed mutably and so do not overlap.
+    unsafe {
+        match call {
+            Call::Model(credentials) => gate_model(bytes, length, credentials, place.cast()),
+            Call::Disclosable(shown) => gate_disclosable(bytes, length, shown, place.cast()),
+            _ => gate_check(bytes, length),
         }
     }
 }

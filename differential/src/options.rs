@@ -11,6 +11,7 @@ pub const USAGE: &str = "options of differential/run:
   --slip N         test the N-th wrong version as if it were the gate, its disagreements written down
   --slip-cases N   cases in which a slip must be found out (default 300000)
   --replay DIR     replay a disagreement that was written down
+  --no-build       library and bench program as they stand
   --help           this text";
 
 pub struct Options {

@@ -35,7 +35,7 @@ pub fn replay(folder: &Path) -> Result<bool, String> {
     let (call, before) = read_case(&case).ok_or("case: not as it was written")?;
     println!("call {} {:04x}", call.name(), call.argument());
     let mut versions: [(&str, Box<dyn Version>); 4] = [
-        ("gate", Box::new(Gate)),
+        ("gate", Box::new(Gate::default())),
         ("plain", Box::new(Plain)),
         ("tuned", Box::new(Tuned)),
         ("definition", Box::new(Definition)),

@@ -10,7 +10,7 @@ use crate::report::{answer, Finding, Shared, Trail};
 use crate::tuned::Tuned;
 use std::sync::atomic::Ordering;
 
-/// Bytes before and after a lent policy.
+/// Bytes after a lent policy, and the fewest before it.
 const GUARD: usize = 16;
 
 /// The definition is asked in one of so many cases, where its cost is at most this.
@@ -27,12 +27,13 @@ pub struct Tester<'a> {
     opinions: bool,
     policy: Vec<u8>,
     lent: Vec<u8>,
+    front: usize,
     rules: Option<Policy>,
 }
 
-/// A policy between guard bytes.
-fn guarded(policy: &[u8]) -> Vec<u8> {
-    let mut bytes = vec![0xa5; GUARD];
+/// A policy between guard bytes, so many of them in front.
+fn guarded(policy: &[u8], front: usize) -> Vec<u8> {
+    let mut bytes = vec![0xa5; front];
     bytes.extend(policy);
     bytes.extend([0x5a; GUARD]);
     bytes
@@ -54,14 +55,16 @@ impl<'a> Tester<'a> {
             subject,
             opinions,
             policy: Vec::new(),
-            lent: guarded(&[]),
+            lent: guarded(&[], GUARD),
+            front: GUARD,
             rules: Some(Policy::default()),
         }
     }
 
     /// The policy of the cases that follow.
     pub fn set_policy(&mut self, policy: Vec<u8>) {
-        self.lent = guarded(&policy);
+        self.front = GUARD + self.random.below(8);
+        self.lent = guarded(&policy, self.front);
         self.rules = check(&policy).ok();
         self.policy = policy;
     }
@@ -90,14 +93,14 @@ impl<'a> Tester<'a> {
     /// The answer of the version under test, and whether the lent bytes are as they were.
     fn ask_subject(&mut self, call: Call, before: Memory) -> (u32, Memory, bool) {
         let mut memory = before;
-        let end = self.lent.len() - GUARD;
-        let lent = &mut self.lent[GUARD..end];
+        let (front, end) = (self.front, self.lent.len() - GUARD);
+        let lent = &mut self.lent[front..end];
         let reply = self.subject.call(call, lent, &mut memory);
-        let kept = self.lent[GUARD..end] == self.policy
-            && self.lent[..GUARD] == [0xa5; GUARD]
+        let kept = self.lent[front..end] == self.policy
+            && self.lent[..front].iter().all(|byte| *byte == 0xa5)
             && self.lent[end..] == [0x5a; GUARD];
         if !kept {
-            self.lent = guarded(&self.policy);
+            self.lent = guarded(&self.policy, front);
         }
         (reply, memory, kept)
     }

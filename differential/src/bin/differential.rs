@@ -31,7 +31,7 @@ fn tested(options: &Options) -> Box<dyn Version> {
     let slip = options.slip.checked_sub(1).map(|place| place as usize);
     match slip.and_then(|place| SLIPS.get(place)) {
         Some((slip, _)) => Box::new(Slipped(*slip)),
-        None => Box::new(Gate),
+        None => Box::new(Gate::default()),
     }
 }
 
