@@ -25,7 +25,7 @@ pub enum Manner {
 
 /// A manner for a client who does not cooperate.
 pub fn manner(random: &mut Random) -> Manner {
-    let round = random.range(2, 17);
+    let round = random.pick(&[2, 3, 4, 5, 6, 7, 8, 9, 11, 13, 15, 16, 17, 17, 17]);
     random.pick(&[
         Manner::Late(round),
         Manner::Random,

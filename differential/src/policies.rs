@@ -252,7 +252,7 @@ fn edges(random: &mut Random) -> Vec<Record> {
 /// A service that each askable credential gives alone, or gives with one more: long sessions.
 fn singles(random: &mut Random) -> Vec<Record> {
     let count = random.pick(&[1, 2, 3, 4, 5, 6, 7, 8, 10, 12]);
-    let count = if random.one_in(8) { 16 } else { count };
+    let count = if random.one_in(4) { 16 } else { count };
     let credentials = some(random, count, 0, 15);
     let service = random.range(16, 62) as u8;
     let mut records = Vec::new();

@@ -24,6 +24,7 @@ pub struct Tester<'a> {
     /// The list that the session is from, if it is from one under one policy.
     pub trail: Option<Trail>,
     subject: Box<dyn Version + 'a>,
+    oracle: Box<dyn Version + 'a>,
     opinions: bool,
     policy: Vec<u8>,
     lent: Vec<u8>,
@@ -53,12 +54,18 @@ impl<'a> Tester<'a> {
             shared,
             trail: None,
             subject,
+            oracle: Box::new(Plain),
             opinions,
             policy: Vec::new(),
             lent: guarded(&[], GUARD),
             front: GUARD,
             rules: Some(Policy::default()),
         }
+    }
+
+    /// Another version to be compared with, in the place of the plain one.
+    pub fn compared_with(self, oracle: Box<dyn Version + 'a>) -> Tester<'a> {
+        Tester { oracle, ..self }
     }
 
     /// The policy of the cases that follow.
@@ -105,6 +112,12 @@ impl<'a> Tester<'a> {
         (reply, memory, kept)
     }
 
+    fn ask_oracle(&mut self, call: Call, before: Memory) -> (u32, Memory) {
+        let mut memory = before;
+        let reply = self.oracle.call(call, &mut self.policy, &mut memory);
+        (reply, memory)
+    }
+
     fn ask(&mut self, version: &mut dyn Version, call: Call, before: Memory) -> (u32, Memory) {
         let mut memory = before;
         let reply = version.call(call, &mut self.policy, &mut memory);
@@ -114,7 +127,7 @@ impl<'a> Tester<'a> {
     /// One case: the reply and the memory after it, or nothing where there is a disagreement.
     pub fn case(&mut self, kind: Kind, call: Call, before: Memory) -> Option<(u32, Memory)> {
         let (reply, memory, kept) = self.ask_subject(call, before);
-        let (wanted, wanted_memory) = self.ask(&mut Plain, call, before);
+        let (wanted, wanted_memory) = self.ask_oracle(call, before);
         self.counts.case(kind, call, wanted);
         if self.counts.cases().is_multiple_of(64) {
             self.shared.cases.fetch_add(64, Ordering::Relaxed);
@@ -218,7 +231,7 @@ impl<'a> Tester<'a> {
             self.shrink(call, before)
         };
         let (reply, memory, kept) = self.ask_subject(call, before);
-        let (wanted, wanted_memory) = self.ask(&mut Plain, call, before);
+        let (wanted, wanted_memory) = self.ask_oracle(call, before);
         let mut answers = vec![
             answer("tested", reply, &memory),
             answer("plain ", wanted, &wanted_memory),
@@ -283,7 +296,7 @@ impl<'a> Tester<'a> {
     /// The memory after a call where both agree.
     fn differs(&mut self, call: Call, before: Memory) -> Result<Memory, ()> {
         let (reply, memory, kept) = self.ask_subject(call, before);
-        let plain = self.ask(&mut Plain, call, before);
+        let plain = self.ask_oracle(call, before);
         if kept && plain == (reply, memory) {
             Ok(memory)
         } else {

@@ -1,5 +1,7 @@
 //! The differential tests: the gate against document 01 in plain Rust.
 
+mod slips;
+
 use differential::bench_runs::bench_runs;
 use differential::calls::Version;
 use differential::counts::Counts;
@@ -13,13 +15,12 @@ use differential::random::Random;
 use differential::replay::replay;
 use differential::report::Shared;
 use differential::scenarios::scenario;
-use differential::slips::{Slip, Slipped, SLIPS};
+use differential::slips::{Slipped, SLIPS};
 use differential::tester::Tester;
 use differential::tuned::Tuned;
 use std::io::IsTerminal;
 use std::process::ExitCode;
-use std::sync::atomic::{AtomicBool, AtomicUsize, Ordering};
-use std::sync::Mutex;
+use std::sync::atomic::{AtomicBool, Ordering};
 use std::thread;
 use std::time::{Duration, Instant};
 
@@ -89,7 +90,7 @@ fn progress(shared: &Shared, done: &AtomicBool) {
     }
 }
 
-fn shared(options: &Options, quiet: bool) -> Shared {
+pub(crate) fn shared(options: &Options, quiet: bool) -> Shared {
     let folder = options.root.join("target/differential");
     let bench = options.root.join("target/bin/bench");
     Shared::new(folder, bench, quiet)
@@ -161,60 +162,6 @@ fn test_gate(options: &Options) -> Result<bool, String> {
     Ok(total.disagreements == 0 && covered)
 }
 
-/// The case in which a slip is found out, if it is.
-fn find_out(options: &Options, slip: Slip) -> Option<u64> {
-    let shared = shared(options, true);
-    let random = Random::new(options.seed, 0);
-    let mut tester = Tester::new(Box::new(Slipped(slip)), random, &shared, false);
-    while tester.counts.cases() < options.slip_cases && !shared.stopped() {
-        scenario(&mut tester);
-    }
-    shared.stopped().then_some(tester.counts.first_disagreement)
-}
-
-/// Every slip must be found out; the same code without a slip must not be.
-fn test_slips(options: &Options) -> Result<bool, String> {
-    let next = AtomicUsize::new(0);
-    let results = Mutex::new(vec![None; SLIPS.len()]);
-    let control = thread::scope(|scope| {
-        let control = scope.spawn(|| find_out(options, Slip::None));
-        for _ in 0..options.threads {
-            scope.spawn(|| loop {
-                let this = next.fetch_add(1, Ordering::Relaxed);
-                let Some((slip, _)) = SLIPS.get(this) else {
-                    return;
-                };
-                let found = find_out(options, *slip);
-                if let Ok(mut results) = results.lock() {
-                    results[this] = found;
-                }
-            });
-        }
-        control.join()
-    });
-    let control = control.map_err(|_| "a thread stopped")?;
-    let results = results.into_inner().map_err(|_| "a thread stopped")?;
-    Ok(print_slips(options, control, &results))
-}
-
-fn print_slips(options: &Options, control: Option<u64>, results: &[Option<u64>]) -> bool {
-    println!("seed {}: found out in case", options.seed);
-    for (place, ((_, text), found)) in SLIPS.iter().zip(results).enumerate() {
-        let case = found.map_or("never".to_string(), |case| case.to_string());
-        println!("  {case:>8}  slip {}: {text}", place + 1);
-    }
-    match control {
-        Some(case) => println!("the same code without a slip disagrees in case {case}"),
-        None => println!(
-            "the same code without a slip: {} cases, 0 disagreements",
-            options.slip_cases
-        ),
-    }
-    let found = results.iter().flatten().count();
-    println!("{} slips, {found} found out", SLIPS.len());
-    found == SLIPS.len() && control.is_none()
-}
-
 fn run() -> Result<bool, String> {
     let options = parse(std::env::args().skip(1)).map_err(|e| format!("{e}\n{USAGE}"))?;
     if options.help {
@@ -223,7 +170,7 @@ fn run() -> Result<bool, String> {
     }
     match &options.replay {
         Some(folder) => replay(folder),
-        None if options.slips => test_slips(&options),
+        None if options.slips => slips::test_slips(&options),
         None => test_gate(&options),
     }
 }
