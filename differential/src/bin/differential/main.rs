@@ -24,8 +24,8 @@ use std::sync::atomic::{AtomicBool, Ordering};
 use std::thread;
 use std::time::{Duration, Instant};
 
-/// A run of fewer cases need not have brought everything up.
-const ENOUGH_FOR_COVERAGE: u64 = 200_000;
+/// A run of fewer cases need not have brought everything up, and leaves out the cases that are not random.
+const ENOUGH_FOR_COVERAGE: u64 = 500_000;
 
 /// The gate, or the wrong version that was asked for.
 fn tested(options: &Options) -> Box<dyn Version> {
