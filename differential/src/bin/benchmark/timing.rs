@@ -1,0 +1,74 @@
+//! Samples, medians and minima.
+
+use crate::items::Item;
+use std::hint::black_box;
+use std::time::{Duration, Instant};
+
+/// A sample lasts about this long, by as many calls as it takes.
+const SAMPLE: Duration = Duration::from_micros(300);
+
+/// Samples of short and of long calls.
+const SHORT_SAMPLES: usize = 201;
+const LONG_SAMPLES: usize = 21;
+
+/// Median and minimum for each version, in seconds for one call; and the gate's time as a multiple of the others'.
+pub struct Times {
+    pub name: String,
+    pub median: [f64; 3],
+    pub least: [f64; 3],
+    /// Medians of the ratios of samples taken one after the other.
+    pub ratios: [f64; 2],
+}
+
+/// Seconds for one call, over so many calls.
+fn sample(version: &dyn Fn() -> u64, calls: u32) -> f64 {
+    let start = Instant::now();
+    for _ in 0..calls {
+        black_box(version());
+    }
+    start.elapsed().as_secs_f64() / f64::from(calls)
+}
+
+/// As many calls as make up a sample of the gate.
+fn calibrate(version: &dyn Fn() -> u64) -> u32 {
+    let mut calls = 1;
+    while calls < 1 << 20 && sample(version, calls) * f64::from(calls) < SAMPLE.as_secs_f64() {
+        calls *= 2;
+    }
+    calls
+}
+
+/// The three versions in turn, again and again: one row of samples each time.
+fn samples(item: &Item) -> Vec<[f64; 3]> {
+    let calls = calibrate(&*item.versions[0]);
+    let rows = if calls == 1 {
+        LONG_SAMPLES
+    } else {
+        SHORT_SAMPLES
+    };
+    let row = |_| std::array::from_fn(|k| sample(&*item.versions[k], calls));
+    (0..rows).map(row).collect()
+}
+
+fn sorted(numbers: impl Iterator<Item = f64>) -> Vec<f64> {
+    let mut numbers: Vec<f64> = numbers.collect();
+    numbers.sort_by(f64::total_cmp);
+    numbers
+}
+
+pub fn measure(item: &Item) -> Result<Times, String> {
+    let answers: Vec<u64> = item.versions.iter().map(|version| version()).collect();
+    if answers.iter().any(|answer| *answer != answers[0]) {
+        return Err(format!("{}: different answers {answers:x?}", item.name));
+    }
+    let rows = samples(item);
+    let middle = rows.len() / 2;
+    let times = |k: usize| sorted(rows.iter().map(move |row| row[k]));
+    let ratio = |k: usize| sorted(rows.iter().map(move |row| row[0] / row[k]))[middle];
+    Ok(Times {
+        name: item.name.clone(),
+        median: std::array::from_fn(|k| times(k)[middle]),
+        least: std::array::from_fn(|k| times(k)[0]),
+        ratios: [ratio(1), ratio(2)],
+    })
+}

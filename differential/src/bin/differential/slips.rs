@@ -1,0 +1,103 @@
+//! The tests against wrong versions: each must be found out.
+
+use crate::shared;
+use differential::options::Options;
+use differential::random::Random;
+use differential::report::Shared;
+use differential::scenarios::scenario;
+use differential::slips::{Slip, Slipped, SLIPS};
+use differential::tester::Tester;
+use std::sync::atomic::{AtomicUsize, Ordering};
+use std::sync::Mutex;
+use std::thread;
+
+/// Demand 3 and soundness alone are tried in one case of so many.
+const ALONE: u64 = 6;
+
+/// The cases in which a slip is found out: by comparing answers, and by demand 3 and soundness alone.
+#[derive(Clone, Copy, Default)]
+struct Found {
+    compared: Option<u64>,
+    alone: Option<u64>,
+}
+
+fn tester_of<'a>(options: &Options, slip: Slip, shared: &'a Shared) -> Tester<'a> {
+    let random = Random::new(options.seed, 0);
+    Tester::new(Box::new(Slipped(slip)), random, shared, false)
+}
+
+/// The case with the first disagreement, if there is one in so many cases.
+fn first(cases: u64, tester: &mut Tester) -> Option<u64> {
+    while tester.counts.cases() < cases && !tester.shared.stopped() {
+        scenario(tester);
+    }
+    let case = tester.counts.first_disagreement;
+    (case > 0).then_some(case)
+}
+
+fn find_out(options: &Options, slip: Slip) -> Found {
+    let (one, other) = (shared(options, true), shared(options, true));
+    let mut compared = tester_of(options, slip, &one);
+    let mut alone = tester_of(options, slip, &other).compared_with(Box::new(Slipped(slip)));
+    Found {
+        compared: first(options.slip_cases, &mut compared),
+        alone: first(options.slip_cases / ALONE, &mut alone),
+    }
+}
+
+/// Every slip must be found out by comparing; the same code without a slip must not be found out at all.
+pub fn test_slips(options: &Options) -> Result<bool, String> {
+    let next = AtomicUsize::new(0);
+    let results = Mutex::new(vec![Found::default(); SLIPS.len()]);
+    let control = thread::scope(|scope| {
+        let control = scope.spawn(|| find_out(options, Slip::None));
+        for _ in 1..options.threads.max(2) {
+            scope.spawn(|| loop {
+                let this = next.fetch_add(1, Ordering::Relaxed);
+                let Some((slip, _)) = SLIPS.get(this) else {
+                    return;
+                };
+                let found = find_out(options, *slip);
+                if let Ok(mut results) = results.lock() {
+                    results[this] = found;
+                }
+            });
+        }
+        control.join()
+    });
+    let control = control.map_err(|_| "a thread stopped")?;
+    let results = results.into_inner().map_err(|_| "a thread stopped")?;
+    Ok(print_slips(options, control, &results))
+}
+
+fn show(case: Option<u64>) -> String {
+    case.map_or("-".to_string(), |case| case.to_string())
+}
+
+fn print_slips(options: &Options, control: Found, results: &[Found]) -> bool {
+    println!(
+        "seed {}: the case in which each slip is found out,",
+        options.seed
+    );
+    println!(
+        "by comparing answers ({} cases at most), and by demand 3 and soundness alone ({})\n",
+        options.slip_cases,
+        options.slip_cases / ALONE
+    );
+    for (place, ((_, text), found)) in SLIPS.iter().zip(results).enumerate() {
+        let (compared, alone) = (show(found.compared), show(found.alone));
+        println!("{compared:>8} {alone:>8}  slip {}: {text}", place + 1);
+    }
+    let (compared, alone) = (show(control.compared), show(control.alone));
+    println!("{compared:>8} {alone:>8}  no slip");
+    let found = results
+        .iter()
+        .filter(|found| found.compared.is_some())
+        .count();
+    let alone = results.iter().filter(|found| found.alone.is_some()).count();
+    println!(
+        "\n{} slips, {found} found out, {alone} of them by demand 3 and soundness alone",
+        SLIPS.len()
+    );
+    found == SLIPS.len() && control.compared.is_none() && control.alone.is_none()
+}

@@ -1,0 +1,102 @@
+//! One call of one exported function, and the memory that it may write.
+
+/// A call of include/gate.h with its number; policy and memory come beside it.
+#[derive(Clone, Copy, PartialEq, Eq, Debug)]
+pub enum Call {
+    Check,
+    Model(u16),
+    Disclosable(u16),
+    Open(u16),
+    Round(u16),
+}
+
+impl Call {
+    /// The exported function's name.
+    pub fn name(self) -> &'static str {
+        match self {
+            Call::Check => "gate_check",
+            Call::Model(_) => "gate_model",
+            Call::Disclosable(_) => "gate_disclosable",
+            Call::Open(_) => "gate_open",
+            Call::Round(_) => "gate_round",
+        }
+    }
+
+    /// Its 16-bit argument; 0 where it has none.
+    pub fn argument(self) -> u16 {
+        match self {
+            Call::Check => 0,
+            Call::Model(number)
+            | Call::Disclosable(number)
+            | Call::Open(number)
+            | Call::Round(number) => number,
+        }
+    }
+
+    /// The call with this name and argument.
+    pub fn named(name: &str, argument: u16) -> Option<Call> {
+        match name {
+            "gate_check" => Some(Call::Check),
+            "gate_model" => Some(Call::Model(argument)),
+            "gate_disclosable" => Some(Call::Disclosable(argument)),
+            "gate_open" => Some(Call::Open(argument)),
+            "gate_round" => Some(Call::Round(argument)),
+            _ => None,
+        }
+    }
+}
+
+/// Where a session or a set stands in the memory: guard bytes are before and after it.
+pub const PLACE: usize = 8;
+
+/// The memory that a call may write, with guard bytes on both sides.
+#[derive(Clone, Copy, PartialEq, Eq, Debug)]
+#[repr(C, align(8))]
+pub struct Memory(pub [u8; 32]);
+
+impl Memory {
+    /// The ten bytes of the session.
+    pub fn session(&self) -> [u8; 10] {
+        self.0[PLACE..PLACE + 10].try_into().expect("ten bytes")
+    }
+
+    pub fn set_session(&mut self, bytes: [u8; 10]) {
+        self.0[PLACE..PLACE + 10].copy_from_slice(&bytes);
+    }
+
+    pub fn model(&self) -> u64 {
+        u64::from_le_bytes(self.0[PLACE..PLACE + 8].try_into().expect("eight bytes"))
+    }
+
+    pub fn set_model(&mut self, set: u64) {
+        self.0[PLACE..PLACE + 8].copy_from_slice(&set.to_le_bytes());
+    }
+
+    pub fn set_credentials(&mut self, set: u16) {
+        self.0[PLACE..PLACE + 2].copy_from_slice(&set.to_le_bytes());
+    }
+}
+
+/// Something that answers calls: the gate, the plain version, or one with a slip in it.
+pub trait Version {
+    /// The reply. A right version writes nothing to the policy, and to the memory only what include/gate.h says.
+    fn call(&mut self, call: Call, policy: &mut [u8], memory: &mut Memory) -> u32;
+}
+
+/// The parts of a reply (include/gate.h).
+pub fn refusal_of(reply: u32) -> u32 {
+    reply & 0xff
+}
+
+pub fn ending_of(reply: u32) -> u32 {
+    reply >> 8 & 0xff
+}
+
+pub fn asked_of(reply: u32) -> u16 {
+    (reply >> 16) as u16
+}
+
+/// "enum { GATE_GRANT = 1, GATE_DENY = 2, GATE_ASK = 3 }"
+pub const GRANT: u32 = 1;
+pub const DENY: u32 = 2;
+pub const ASK: u32 = 3;

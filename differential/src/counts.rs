@@ -1,0 +1,214 @@
+//! What came up in a run: cases by kind, replies, lists.
+
+use crate::calls::{asked_of, ending_of, refusal_of, Call, ASK, DENY, GRANT};
+
+/// What a case was made as.
+#[derive(Clone, Copy, PartialEq, Eq, Debug)]
+pub enum Kind {
+    CheckAccepted,
+    CheckBoundary,
+    CheckDamaged,
+    Model,
+    ModelDamaged,
+    Disclosable,
+    DisclosableDamaged,
+    Open,
+    RoundSound,
+    RoundUnsound,
+    RoundAnyBytes,
+    RoundNoSession,
+    RoundDamaged,
+    ListOpening,
+    ListClient,
+    ListCooperative,
+    ListChanging,
+    Exhaustive,
+}
+
+pub const KINDS: [&str; 18] = [
+    "check, policy of the written form",
+    "check, policy at a boundary",
+    "check, damaged policy",
+    "model",
+    "model, damaged policy",
+    "disclosable",
+    "disclosable, damaged policy",
+    "open",
+    "round, random sound session",
+    "round, one clause of soundness broken",
+    "round, ten random bytes",
+    "round, bytes that are no session",
+    "round, damaged policy",
+    "opening of a list",
+    "round of a list, any client",
+    "round of a list, cooperative client",
+    "round of a list, policies changing",
+    "every length, head, body atom, request; small sessions",
+];
+
+/// Counters, each of one thread; `add` joins them.
+#[derive(Clone, Default)]
+pub struct Counts {
+    pub kinds: [u64; 18],
+    /// Replies of gate_check by refusal number, 0 accepted.
+    pub policies: [u64; 7],
+    /// Replies of gate_open: fresh sessions, refusals 7.
+    pub openings: [u64; 2],
+    /// Refusals of gate_round by number; 0 is not refused.
+    pub refusals: [u64; 10],
+    pub grants: u64,
+    pub denies: u64,
+    /// Questions by size.
+    pub asked: [u64; 17],
+    /// Lists under one policy, by accepted rounds when closed; 0 where the list ended open.
+    pub lists: [u64; 18],
+    pub lists_at_d_plus_1: u64,
+    pub cooperative: u64,
+    pub licensed: u64,
+    pub licensed_lacking: u64,
+    pub licensed_at_bound: u64,
+    pub licensed_at_bound_lacking: u64,
+    pub changing: u64,
+    /// Second opinions on the plain version: by the definition, by all stable sets tried, by the tuned version.
+    pub definition: u64,
+    pub all_stable_sets: u64,
+    pub tuned: u64,
+    pub bench_runs: u64,
+    pub disagreements: u64,
+    /// The case with the first disagreement; 0 where there is none.
+    pub first_disagreement: u64,
+}
+
+fn add_all(to: &mut [u64], from: &[u64]) {
+    for (a, b) in to.iter_mut().zip(from) {
+        *a += b;
+    }
+}
+
+impl Counts {
+    pub fn cases(&self) -> u64 {
+        self.kinds.iter().sum()
+    }
+
+    /// Counts one case.
+    pub fn case(&mut self, kind: Kind, call: Call, reply: u32) {
+        self.kinds[kind as usize] += 1;
+        let number = refusal_of(reply) as usize;
+        match call {
+            Call::Check => self.policies[number.min(6)] += 1,
+            Call::Open(_) => self.openings[usize::from(number != 0)] += 1,
+            Call::Round(_) => self.round(reply),
+            _ => {}
+        }
+    }
+
+    fn round(&mut self, reply: u32) {
+        let number = refusal_of(reply) as usize;
+        self.refusals[number.min(9)] += 1;
+        match ending_of(reply) {
+            _ if number != 0 => {}
+            GRANT => self.grants += 1,
+            DENY => self.denies += 1,
+            ASK => self.asked[asked_of(reply).count_ones() as usize] += 1,
+            _ => {}
+        }
+    }
+
+    pub fn add(&mut self, other: &Counts) {
+        add_all(&mut self.kinds, &other.kinds);
+        add_all(&mut self.policies, &other.policies);
+        add_all(&mut self.openings, &other.openings);
+        add_all(&mut self.refusals, &other.refusals);
+        add_all(&mut self.asked, &other.asked);
+        add_all(&mut self.lists, &other.lists);
+        self.grants += other.grants;
+        self.denies += other.denies;
+        self.lists_at_d_plus_1 += other.lists_at_d_plus_1;
+        self.cooperative += other.cooperative;
+        self.licensed += other.licensed;
+        self.licensed_lacking += other.licensed_lacking;
+        self.licensed_at_bound += other.licensed_at_bound;
+        self.licensed_at_bound_lacking += other.licensed_at_bound_lacking;
+        self.changing += other.changing;
+        self.definition += other.definition;
+        self.all_stable_sets += other.all_stable_sets;
+        self.tuned += other.tuned;
+        self.bench_runs += other.bench_runs;
+        self.disagreements += other.disagreements;
+    }
+
+    /// What should have come up and did not.
+    pub fn missing(&self) -> Vec<String> {
+        let mut missing = Vec::new();
+        let mut need = |count: u64, what: String| {
+            if count == 0 {
+                missing.push(what);
+            }
+        };
+        for (kind, name) in KINDS.iter().enumerate() {
+            need(self.kinds[kind], format!("cases: {name}"));
+        }
+        for (number, count) in self.policies.iter().enumerate() {
+            need(*count, format!("gate_check: reply {number}"));
+        }
+        for (number, count) in self.refusals.iter().enumerate() {
+            need(*count, format!("gate_round: refusal {number}"));
+        }
+        for (size, count) in self.asked.iter().enumerate().skip(1).take(4) {
+            need(*count, format!("questions of size {size}"));
+        }
+        need(self.grants, "grants".to_string());
+        need(self.denies, "denies".to_string());
+        need(self.lists[17], "lists of 17 rounds".to_string());
+        need(self.licensed_at_bound_lacking, "bound 2 + u".to_string());
+        missing
+    }
+
+    /// The summary's lines.
+    pub fn print(&self) {
+        println!("\ncases by kind");
+        for (name, count) in KINDS.iter().zip(self.kinds) {
+            println!("  {count:>10}  {name}");
+        }
+        println!("\nreplies");
+        row("policies by refusal, 0 accepted", &self.policies, 0);
+        row("openings: fresh, refused 7", &self.openings, 0);
+        row("rounds by refusal, 0 accepted", &self.refusals, 0);
+        println!("  rounds ended in grant: {}", self.grants);
+        println!("  rounds ended in deny: {}", self.denies);
+        row("questions by size, from 1", &self.asked[1..], 1);
+        self.print_lists();
+        println!("\nsecond opinions on the plain version");
+        println!("  by the definition: {}", self.definition);
+        println!("  by all stable sets tried: {}", self.all_stable_sets);
+        println!("  by the tuned version: {}", self.tuned);
+        println!("\nruns of the bench program: {}", self.bench_runs);
+    }
+
+    fn print_lists(&self) {
+        println!("\nlists of rounds");
+        println!(
+            "  under one accepted policy: {}",
+            self.lists.iter().sum::<u64>()
+        );
+        println!("  left open: {}", self.lists[0]);
+        row("closed, by rounds, from 1", &self.lists[1..], 1);
+        println!("  closed in round d + 1: {}", self.lists_at_d_plus_1);
+        println!("  with a cooperative client: {}", self.cooperative);
+        println!("  of these with the premise: {}", self.licensed);
+        println!("    and u > 0: {}", self.licensed_lacking);
+        println!("    granted in round 2 + u: {}", self.licensed_at_bound);
+        println!("      and u > 0: {}", self.licensed_at_bound_lacking);
+        println!("  under changing policies: {}", self.changing);
+    }
+}
+
+/// A histogram in one line.
+fn row(name: &str, counts: &[u64], first: usize) {
+    let cells: Vec<String> = counts
+        .iter()
+        .enumerate()
+        .map(|(place, count)| format!("{}:{count}", place + first))
+        .collect();
+    println!("  {name}: {}", cells.join(" "));
+}

@@ -1,0 +1,251 @@
+//! Document 01 once more, read as it stands: nothing is computed cleverly, sets are looked for among all sets. It is a second
+//! opinion on the plain version, on cases small enough for it.
+
+use crate::calls::{Call, Memory, Version};
+use crate::plain::interface::{decode, encode, ending_reply, refusal_reply};
+use crate::plain::policy::{level, Policy, Record, Refusal};
+use crate::plain::session::{Ending, Phase, Session, Verdict};
+
+/// "For a candidate set M, strike each rule that negates an atom of M, then drop the negated parts of the others."
+fn reduct(rules: &[Record], m: u64) -> Vec<Record> {
+    rules
+        .iter()
+        .filter(|rule| rule.negative & m == 0)
+        .map(|rule| Record {
+            negative: 0,
+            ..*rule
+        })
+        .collect()
+}
+
+/// "the least set that holds C and is closed under what remains"
+fn least_closed(rules: &[Record], c: u64) -> u64 {
+    match rules
+        .iter()
+        .find(|rule| rule.positive & !c == 0 && c >> rule.head & 1 == 0)
+    {
+        Some(rule) => least_closed(rules, c | 1 << rule.head),
+        None => c,
+    }
+}
+
+/// "M is stable if it equals the least set that holds C and is closed under what remains"
+pub fn stable(rules: &[Record], c: u16, m: u64) -> bool {
+    m == least_closed(&reduct(rules, m), u64::from(c))
+}
+
+/// A stable set, come upon by taking the least closed set of each reduct as the next candidate; levels are not looked at.
+pub fn stable_set(rules: &[Record], c: u16) -> u64 {
+    let mut m = u64::from(c);
+    while !stable(rules, c, m) {
+        m = least_closed(&reduct(rules, m), u64::from(c));
+    }
+    m
+}
+
+fn heads(rules: &[Record]) -> u64 {
+    rules.iter().fold(0, |set, rule| set | 1 << rule.head)
+}
+
+fn subsets(set: u64) -> impl Iterator<Item = u64> {
+    let mut next = Some(0);
+    std::iter::from_fn(move || {
+        let this: u64 = next?;
+        next = (this != set).then(|| this.wrapping_sub(set) & set);
+        Some(this)
+    })
+}
+
+/// All stable sets: each is made of C and heads of rules, so all such sets are tried.
+pub fn stable_sets(rules: &[Record], c: u16) -> Vec<u64> {
+    subsets(heads(rules) & !u64::from(c))
+        .map(|derived| derived | u64::from(c))
+        .filter(|m| stable(rules, c, *m))
+        .collect()
+}
+
+/// "the least set that holds P and is closed under the disclosure rules": what all such sets have in common.
+pub fn disclosable(rules: &[Record], shown: u16) -> u16 {
+    let closed = |set: u64| {
+        rules
+            .iter()
+            .all(|rule| rule.positive & !set != 0 || set >> rule.head & 1 == 1)
+    };
+    subsets(heads(rules))
+        .map(|more| more | u64::from(shown))
+        .filter(|set| closed(*set))
+        .fold(0xffff, |common, set| common & set) as u16
+}
+
+/// "C unlocks service r if r is in the model and 63 is not."
+fn unlocks(rules: &[Record], r: u16, c: u16) -> bool {
+    let m = stable_set(rules, c);
+    m >> r & 1 == 1 && m >> 63 & 1 == 0
+}
+
+/// "among subsets of D that with P unlock the request": all are tried, and the least by count and number is taken.
+fn preferred(rules: &[Record], r: u16, shown: u16, d: u16) -> Option<u16> {
+    subsets(u64::from(d))
+        .map(|subset| subset as u16)
+        .filter(|subset| unlocks(rules, r, shown | subset))
+        .min_by_key(|subset| (subset.count_ones(), *subset))
+}
+
+fn atom_in(set: u64, from: u8, to: u8) -> bool {
+    (from..=to).any(|atom| set >> atom & 1 == 1)
+}
+
+/// Whether a refusal from 3 to 6 applies to a record, whatever others do.
+fn applies(number: u8, record: &Record) -> bool {
+    let access = record.kind == 1;
+    let above = |least: u8| (0..63).filter(move |atom| level(*atom) >= least);
+    match number {
+        3 => record.kind == 0 || record.kind > 2,
+        4 if access => record.head < 16 || record.head > 63,
+        4 => record.head > 15,
+        5 if access => atom_in(record.positive, 63, 63) || atom_in(record.negative, 63, 63),
+        5 => atom_in(record.positive, 16, 63) || atom_in(record.negative, 0, 63),
+        _ if access => {
+            let head = level(record.head);
+            above(head + 1).any(|atom| record.positive >> atom & 1 == 1)
+                || above(head).any(|atom| record.negative >> atom & 1 == 1)
+        }
+        _ => false,
+    }
+}
+
+/// Byte by byte: "bit k standing for atom k", "both little-endian".
+fn read(bytes: &[u8]) -> Record {
+    let set = |at: usize| {
+        (0..64).fold(0, |set, atom| {
+            set | u64::from(bytes[at + atom / 8] >> (atom % 8) & 1) << atom
+        })
+    };
+    Record {
+        kind: bytes[0],
+        head: bytes[1],
+        positive: set(2),
+        negative: set(10),
+    }
+}
+
+/// Every fault of every record, and of them the first by record and number.
+fn check(policy: &[u8]) -> Result<Policy, Refusal> {
+    if policy.len() >= 2305 {
+        return Err(Refusal::by_writer(1, 128));
+    }
+    let whole = (0..=128).rfind(|n| 18 * n <= policy.len()).unwrap_or(0);
+    if 18 * whole != policy.len() {
+        return Err(Refusal::by_writer(2, whole));
+    }
+    let records: Vec<Record> = (0..whole).map(|k| read(&policy[18 * k..])).collect();
+    let faults = records.iter().enumerate().flat_map(|(k, record)| {
+        (3..=6)
+            .filter(move |number| applies(*number, record))
+            .map(move |number| (k, number))
+    });
+    match faults.min() {
+        Some((k, number)) => Err(Refusal::by_writer(number, k)),
+        None => Ok(Policy {
+            access: records.iter().filter(|r| r.kind == 1).copied().collect(),
+            disclosure: records.iter().filter(|r| r.kind == 2).copied().collect(),
+        }),
+    }
+}
+
+/// "A session is sound if ..", as a list of what must hold.
+pub fn sound(session: &Session) -> bool {
+    let joined = session.shown | session.declined;
+    let most = 1 + (0..16).filter(|k| joined >> k & 1 == 1).count();
+    let in_range = (1..=most).contains(&usize::from(session.count));
+    let apart = |q: u16| (0..16).all(|k| q >> k & 1 == 0 || joined >> k & 1 == 0);
+    let phase = match session.phase {
+        Phase::Fresh => (session.shown, session.declined, session.count) == (0, 0, 0),
+        Phase::Waiting(q) => q != 0 && apart(q) && in_range,
+        Phase::Closed(_) => in_range,
+    };
+    phase && session.request > 15 && session.request < 63
+}
+
+/// A round, in the paper's order.
+fn round(policy: &Policy, s: &Session, p: u16) -> (Ending, Session) {
+    let asked = if let Phase::Waiting(q) = s.phase {
+        q
+    } else {
+        0
+    };
+    let shown = s.shown | p;
+    let declined = s.declined | (asked & !p);
+    let d = disclosable(&policy.disclosure, shown) & !(shown | declined);
+    let (ending, phase) = if unlocks(&policy.access, s.request, shown) {
+        (Ending::Grant, Phase::Closed(Verdict::Grant))
+    } else if let Some(q) = preferred(&policy.access, s.request, shown, d) {
+        (Ending::Ask(q), Phase::Waiting(q))
+    } else {
+        (Ending::Deny, Phase::Closed(Verdict::Deny))
+    };
+    let next = Session {
+        request: s.request,
+        shown,
+        declined,
+        count: s.count + 1,
+        phase,
+    };
+    (ending, next)
+}
+
+fn call_round(policy: &Policy, p: u16, memory: &mut Memory) -> Result<u32, Refusal> {
+    let refuse = |number| Err(Refusal::without_record(number));
+    match decode(memory.session()) {
+        None => refuse(8),
+        Some(s) if s.request < 16 || s.request > 62 => refuse(7),
+        Some(s) if !sound(&s) => refuse(8),
+        Some(s) if matches!(s.phase, Phase::Closed(_)) => refuse(9),
+        Some(s) => {
+            let (ending, next) = round(policy, &s, p);
+            memory.set_session(encode(&next));
+            Ok(ending_reply(ending))
+        }
+    }
+}
+
+/// The definition as a version to be called.
+pub struct Definition;
+
+impl Version for Definition {
+    fn call(&mut self, call: Call, policy: &mut [u8], memory: &mut Memory) -> u32 {
+        if let Call::Open(request) = call {
+            let mut bytes = [0; 10];
+            bytes[..2].copy_from_slice(&request.to_le_bytes());
+            if !(16..63).contains(&request) {
+                return 7;
+            }
+            memory.set_session(bytes);
+            return 0;
+        }
+        let policy = match check(policy) {
+            Ok(policy) => policy,
+            Err(refusal) => return refusal_reply(refusal),
+        };
+        match call {
+            Call::Model(c) => memory.set_model(stable_set(&policy.access, c)),
+            Call::Disclosable(p) => memory.set_credentials(disclosable(&policy.disclosure, p)),
+            Call::Round(p) => {
+                return call_round(&policy, p, memory).unwrap_or_else(refusal_reply);
+            }
+            _ => {}
+        }
+        0
+    }
+}
+
+/// What the definition would have to try, roughly, for a call under an accepted policy: sets times rules.
+pub fn cost(policy: &Policy, call: Call) -> usize {
+    let asked = heads(&policy.disclosure).count_ones();
+    let rules = 1 + policy.access.len() + policy.disclosure.len();
+    match call {
+        Call::Disclosable(_) => rules << asked,
+        Call::Round(_) => (rules * rules) << asked,
+        _ => rules * rules,
+    }
+}

@@ -1,0 +1,93 @@
+//! Cases that are not random: every length, every head with every single body atom, every request, small sessions.
+
+use crate::calls::Call;
+use crate::counts::Kind;
+use crate::marked::policy_a;
+use crate::plain::policy::Record;
+use crate::policies::{access, disclosure, encode};
+use crate::tester::Tester;
+
+fn check(tester: &mut Tester, policy: Vec<u8>) {
+    tester.set_policy(policy);
+    let memory = tester.memory();
+    tester.case(Kind::Exhaustive, Call::Check, memory);
+}
+
+/// Records that are right, cut at every length up to 2,420.
+fn lengths(tester: &mut Tester) {
+    let bytes = encode(&[access(16, 1, 2)]).repeat(135);
+    for length in 0..=2420 {
+        check(tester, bytes[..length].to_vec());
+    }
+}
+
+/// Every kind and head with an empty body.
+fn heads(tester: &mut Tester) {
+    for kind in 0..=255 {
+        for head in 0..=255 {
+            let record = Record {
+                kind,
+                ..access(head, 0, 0)
+            };
+            check(tester, encode(&[record]));
+        }
+    }
+}
+
+/// Every allowed head with every single atom, on either side.
+fn bodies(tester: &mut Tester) {
+    for atom in 0..64 {
+        for head in 16..64 {
+            check(tester, encode(&[access(head, 1 << atom, 0)]));
+            check(tester, encode(&[access(head, 0, 1 << atom)]));
+        }
+        for head in 0..16 {
+            let right = disclosure(head, 1 << atom);
+            check(tester, encode(&[right]));
+            let negated = Record {
+                negative: 1 << atom,
+                ..disclosure(head, 0)
+            };
+            check(tester, encode(&[negated]));
+        }
+    }
+}
+
+fn requests(tester: &mut Tester) {
+    for request in 0..=u16::MAX {
+        let memory = tester.memory();
+        tester.case(Kind::Exhaustive, Call::Open(request), memory);
+    }
+}
+
+/// Small sessions of every phase and count, the question apart, empty or shared.
+fn sessions(tester: &mut Tester) {
+    tester.set_policy(policy_a());
+    let sets = [0, 0b1, 0b10, 0b11, 0b110, 0x8001, 0xfffe, 0xffff];
+    let all = || sets.into_iter();
+    for (shown, declined) in all().flat_map(|p| all().map(move |n| (p, n))) {
+        for (count, phase) in (0..20u8).flat_map(|c| (0..5u8).map(move |f| (c, f))) {
+            for question in [0, 0b1, 0b100, 0x8000] {
+                session(tester, shown, declined, count, phase, question);
+            }
+        }
+    }
+}
+
+fn session(tester: &mut Tester, p: u16, n: u16, count: u8, phase: u8, question: u16) {
+    let mut bytes = [16, 0, 0, 0, 0, 0, count, phase, 0, 0];
+    bytes[2..4].copy_from_slice(&p.to_le_bytes());
+    bytes[4..6].copy_from_slice(&n.to_le_bytes());
+    bytes[8..10].copy_from_slice(&question.to_le_bytes());
+    let memory = tester.memory_with(bytes);
+    tester.case(Kind::Exhaustive, Call::Round(0), memory);
+}
+
+/// All of them.
+pub fn exhaustive(tester: &mut Tester) {
+    lengths(tester);
+    heads(tester);
+    bodies(tester);
+    requests(tester);
+    sessions(tester);
+}

@@ -1,0 +1,88 @@
+//! The gate itself, through its C interface. The only file with unsafe code.
+
+use crate::calls::{Call, Memory, Version, PLACE};
+
+#[link(name = "capi", kind = "static")]
+extern "C" {
+    fn gate_check(policy: *const u8, length: usize) -> u32;
+    fn gate_model(policy: *const u8, length: usize, credentials: u16, set: *mut u64) -> u32;
+    fn gate_disclosable(policy: *const u8, length: usize, shown: u16, set: *mut u16) -> u32;
+    fn gate_open(request: u16, session: *mut u8) -> u32;
+    fn gate_round(policy: *const u8, length: usize, session: *mut u8, shown: u16) -> u32;
+}
+
+/// The gate as a version to be called. Sessions are lent at every alignment in turn.
+#[derive(Default)]
+pub struct Gate {
+    shift: usize,
+}
+
+/// Calls with the memory moved by so many bytes, and moves it back.
+fn shifted(shift: usize, memory: &mut Memory, call: impl FnOnce(*mut u8) -> u32) -> u32 {
+    let mut moved = [0; 40];
+    moved[shift..shift + 32].copy_from_slice(&memory.0);
+    let reply = call(moved[shift + PLACE..].as_mut_ptr());
+    memory.0.copy_from_slice(&moved[shift..shift + 32]);
+    reply
+}
+
+impl Version for Gate {
+    fn call(&mut self, call: Call, policy: &mut [u8], memory: &mut Memory) -> u32 {
+        self.shift = (self.shift + 1) % 8;
+        let shift = match call {
+            Call::Open(_) | Call::Round(_) => self.shift,
+            _ => return call_set(call, policy, memory),
+        };
+        let (bytes, length) = (policy.as_mut_ptr().cast_const(), policy.len());
+        // SAFETY: the policy's pointer is valid for its length; the session's has 24 bytes after it, in memory of its own.
+        shifted(shift, memory, |place| unsafe {
+            match call {
+                Call::Open(request) => gate_open(request, place),
+                _ => gate_round(bytes, length, place, call.argument()),
+            }
+        })
+    }
+}
+
+/// The calls that write a set or nothing.
+fn call_set(call: Call, policy: &mut [u8], memory: &mut Memory) -> u32 {
+    let (bytes, length) = (policy.as_mut_ptr().cast_const(), policy.len());
+    let place = memory.0[PLACE..].as_mut_ptr();
+    // SAFETY: the policy's pointer is valid for its length; the place is aligned to 8 and has 24 bytes after it; the two are
+    // borrowed mutably and so do not overlap.
+    unsafe {
+        match call {
+            Call::Model(credentials) => gate_model(bytes, length, credentials, place.cast()),
+            Call::Disclosable(shown) => gate_disclosable(bytes, length, shown, place.cast()),
+            _ => gate_check(bytes, length),
+        }
+    }
+}
+
+/// The policy's test alone.
+pub fn check(policy: &[u8]) -> u32 {
+    // SAFETY: the pointer is valid for the length.
+    unsafe { gate_check(policy.as_ptr(), policy.len()) }
+}
+
+/// The model and the reply.
+pub fn model(policy: &[u8], credentials: u16) -> (u32, u64) {
+    let mut set = 0;
+    // SAFETY: both pointers are valid, and do not overlap.
+    let reply = unsafe { gate_model(policy.as_ptr(), policy.len(), credentials, &mut set) };
+    (reply, set)
+}
+
+/// The disclosable set and the reply.
+pub fn disclosable(policy: &[u8], shown: u16) -> (u32, u16) {
+    let mut set = 0;
+    // SAFETY: both pointers are valid, and do not overlap.
+    let reply = unsafe { gate_disclosable(policy.as_ptr(), policy.len(), shown, &mut set) };
+    (reply, set)
+}
+
+/// A round: the reply, the session changed in place.
+pub fn round(policy: &[u8], session: &mut [u8; 10], shown: u16) -> u32 {
+    // SAFETY: both pointers are valid, the session for ten bytes, and do not overlap.
+    unsafe { gate_round(policy.as_ptr(), policy.len(), session.as_mut_ptr(), shown) }
+}

@@ -1,0 +1,108 @@
+//! Document 01's own examples ("Marked for proof, and others"): what it says of each, of any version.
+
+use crate::calls::{asked_of, ending_of, refusal_of, Call, Memory, Version, ASK, DENY, GRANT};
+use crate::plain::policy::Record;
+use crate::policies::{access, disclosure, encode};
+
+/// "Policy A: 16 if 0, 1; 16 if 2, not 3; 63 if 0, 2; disclosure 0 always; 1 if 0; 2 always."
+pub fn policy_a() -> Vec<u8> {
+    encode(&[
+        access(16, 0b11, 0),
+        access(16, 0b100, 0b1000),
+        access(63, 0b101, 0),
+        disclosure(0, 0),
+        disclosure(1, 0b1),
+        disclosure(2, 0),
+    ])
+}
+
+/// "policy B, 16 if 0, 1; 16 if 2, 3; 63 if 0, 2; disclosure of 0 to 3 always"
+pub fn policy_b() -> Vec<u8> {
+    let mut records = vec![
+        access(16, 0b11, 0),
+        access(16, 0b1100, 0),
+        access(63, 0b101, 0),
+    ];
+    records.extend((0..4).map(|head| disclosure(head, 0)));
+    encode(&records)
+}
+
+fn one(record: Record) -> Vec<u8> {
+    encode(&[record])
+}
+
+fn check(version: &mut dyn Version, policy: &[u8]) -> u32 {
+    version.call(Call::Check, &mut policy.to_vec(), &mut Memory([0; 32]))
+}
+
+fn model(version: &mut dyn Version, policy: &[u8], credentials: u16) -> u64 {
+    let mut memory = Memory([0; 32]);
+    version.call(Call::Model(credentials), &mut policy.to_vec(), &mut memory);
+    memory.model()
+}
+
+/// A session's answers, one word each: what is asked, how it ends, or its refusal.
+fn session(version: &mut dyn Version, policy: &[u8], request: u16, shown: &[u16]) -> String {
+    let mut memory = Memory([0; 32]);
+    let opened = version.call(Call::Open(request), &mut [], &mut memory);
+    if opened != 0 {
+        return format!("refused {opened}");
+    }
+    let mut words = Vec::new();
+    for p in shown {
+        let reply = version.call(Call::Round(*p), &mut policy.to_vec(), &mut memory);
+        words.push(match (refusal_of(reply), ending_of(reply)) {
+            (0, GRANT) => "grant".to_string(),
+            (0, DENY) => "deny".to_string(),
+            (0, ASK) => format!("{:04x}", asked_of(reply)),
+            (number, _) => format!("refused {number}"),
+        });
+    }
+    words.join(" ")
+}
+
+/// "waiting with Q empty refused 8"
+fn empty_question(version: &mut dyn Version) -> u32 {
+    let mut memory = Memory([0; 32]);
+    memory.set_session([16, 0, 0, 0, 0, 0, 1, 1, 0, 0]);
+    version.call(Call::Round(0), &mut policy_a(), &mut memory)
+}
+
+/// Each example with whether the version gives what document 01 says.
+pub fn marked(v: &mut dyn Version) -> Vec<(&'static str, bool)> {
+    let (a, b) = (policy_a(), policy_b());
+    let example = [
+        &[1u8, 16, 4, 0, 0, 0, 0, 0, 0, 0][..],
+        &[8, 0, 0, 0, 0, 0, 0, 0],
+    ]
+    .concat();
+    let full = one(access(16, 0, 0)).repeat(128);
+    let over = [&full[..], &[1]].concat();
+    vec![
+        (
+            "the record 16 if 2 and not 3",
+            one(access(16, 4, 8)) == example,
+        ),
+        ("(a)", session(v, &a, 16, &[0, 0, 3]) == "0004 0003 grant"),
+        ("(b)", session(v, &[], 16, &[0]) == "deny"),
+        (
+            "(c)",
+            session(v, &one(access(16, 0, 0)), 16, &[0]) == "grant",
+        ),
+        ("(d), the model", model(v, &a, 0b101) >> 63 == 1),
+        ("(d), no grant", session(v, &a, 16, &[0b101]) == "deny"),
+        ("(e)", model(v, &a, 0b1100) >> 16 & 1 == 0),
+        ("(f)", check(v, &one(access(17, 0, 1 << 24))) == 6),
+        ("(g)", check(v, &one(access(24, 0, 1 << 23))) == 0),
+        ("(h)", check(v, &one(access(16, 1 << 23, 0))) == 0),
+        ("(i)", check(v, &one(access(63, 0, 1 << 62))) == 0),
+        ("(j)", session(v, &b, 16, &[0, 1]) == "0003 deny"),
+        ("2,304 bytes", check(v, &full) == 0),
+        ("2,305 bytes", check(v, &over) == 1 | 128 << 8),
+        ("17 bytes", check(v, &full[..17]) == 2),
+        ("request 15", session(v, &a, 15, &[0]) == "refused 7"),
+        ("request 63", session(v, &a, 63, &[0]) == "refused 7"),
+        ("request 62", session(v, &a, 62, &[0]) == "deny"),
+        ("waiting with Q empty", empty_question(v) == 8),
+    ]
+}

@@ -1,0 +1,102 @@
+//! The plain version behind the calls of include/gate.h: replies as numbers, sessions as ten bytes.
+
+use super::disclosure::disclosable;
+use super::model::model;
+use super::policy::{check, Refusal};
+use super::session::{open, round, Ending, Phase, Session, Verdict};
+use crate::calls::{Call, Memory, Version};
+
+/// "byte 0 is a refusal's number, 1 to 9; with 1 to 6 byte 1 is the record's number"
+pub fn refusal_reply(refusal: Refusal) -> u32 {
+    u32::from(refusal.number) | u32::from(refusal.record.unwrap_or(0)) << 8
+}
+
+/// "A round that is not refused has how it ended in byte 1 and an asked set above it."
+pub fn ending_reply(ending: Ending) -> u32 {
+    match ending {
+        Ending::Grant => 1 << 8,
+        Ending::Deny => 2 << 8,
+        Ending::Ask(asked) => 3 << 8 | u32::from(asked) << 16,
+    }
+}
+
+/// The session that ten bytes stand for, if they stand for one: the phase is 0 to 3, and the question 0 unless waiting.
+pub fn decode(bytes: [u8; 10]) -> Option<Session> {
+    let two = |at: usize| u16::from_le_bytes([bytes[at], bytes[at + 1]]);
+    let phase = match (bytes[7], two(8)) {
+        (0, 0) => Phase::Fresh,
+        (1, question) => Phase::Waiting(question),
+        (2, 0) => Phase::Closed(Verdict::Grant),
+        (3, 0) => Phase::Closed(Verdict::Deny),
+        _ => return None,
+    };
+    Some(Session {
+        request: two(0),
+        shown: two(2),
+        declined: two(4),
+        count: bytes[6],
+        phase,
+    })
+}
+
+/// The ten bytes of a session.
+pub fn encode(session: &Session) -> [u8; 10] {
+    let (phase, question) = match session.phase {
+        Phase::Fresh => (0, 0),
+        Phase::Waiting(question) => (1, question),
+        Phase::Closed(Verdict::Grant) => (2, 0),
+        Phase::Closed(Verdict::Deny) => (3, 0),
+    };
+    let mut bytes = [0; 10];
+    bytes[0..2].copy_from_slice(&session.request.to_le_bytes());
+    bytes[2..4].copy_from_slice(&session.shown.to_le_bytes());
+    bytes[4..6].copy_from_slice(&session.declined.to_le_bytes());
+    bytes[6] = session.count;
+    bytes[7] = phase;
+    bytes[8..10].copy_from_slice(&question.to_le_bytes());
+    bytes
+}
+
+/// The plain version as a version to be called.
+pub struct Plain;
+
+fn call_model(policy: &[u8], credentials: u16, memory: &mut Memory) -> Result<u32, Refusal> {
+    let rules = check(policy)?;
+    memory.set_model(model(&rules.access, credentials));
+    Ok(0)
+}
+
+fn call_disclosable(policy: &[u8], shown: u16, memory: &mut Memory) -> Result<u32, Refusal> {
+    let rules = check(policy)?;
+    memory.set_credentials(disclosable(&rules.disclosure, shown));
+    Ok(0)
+}
+
+fn call_open(request: u16, memory: &mut Memory) -> Result<u32, Refusal> {
+    memory.set_session(encode(&open(request)?));
+    Ok(0)
+}
+
+/// Bytes that are no session are refused 8 after the policy's test.
+fn call_round(policy: &[u8], p: u16, memory: &mut Memory) -> Result<u32, Refusal> {
+    let Some(session) = decode(memory.session()) else {
+        check(policy)?;
+        return Err(Refusal::without_record(8));
+    };
+    let (ending, next) = round(policy, &session, p)?;
+    memory.set_session(encode(&next));
+    Ok(ending_reply(ending))
+}
+
+impl Version for Plain {
+    fn call(&mut self, call: Call, policy: &mut [u8], memory: &mut Memory) -> u32 {
+        let answer = match call {
+            Call::Check => check(policy).map(|_| 0),
+            Call::Model(credentials) => call_model(policy, credentials, memory),
+            Call::Disclosable(shown) => call_disclosable(policy, shown, memory),
+            Call::Open(request) => call_open(request, memory),
+            Call::Round(p) => call_round(policy, p, memory),
+        };
+        answer.unwrap_or_else(refusal_reply)
+    }
+}

@@ -1,0 +1,152 @@
+//! Policies: records and the policy's test ("Atoms and records", "Who can be turned back").
+
+/// "63 is the breach mark"
+pub const BREACH: u8 = 63;
+
+/// "A policy is 0 to 128 records of 18 bytes, no header"
+pub const RECORD_BYTES: usize = 18;
+
+/// "1: more than 2,304 bytes"
+pub const MOST_BYTES: usize = 2304;
+
+/// "Byte 0 is the kind: 1 access, 2 disclosure."
+pub const ACCESS: u8 = 1;
+pub const DISCLOSURE: u8 = 2;
+
+/// What 18 bytes say.
+#[derive(Clone, Copy, PartialEq, Eq, Debug)]
+pub struct Record {
+    pub kind: u8,
+    pub head: u8,
+    /// "the set of atoms that must hold"
+    pub positive: u64,
+    /// "the set that must not"
+    pub negative: u64,
+}
+
+/// "Only the first that applies is given": a number, and a record number with 1 to 6.
+#[derive(Clone, Copy, PartialEq, Eq, Debug)]
+pub struct Refusal {
+    pub number: u8,
+    pub record: Option<u8>,
+}
+
+impl Refusal {
+    /// "By the policy's writer, with a record number counted from 0"
+    pub fn by_writer(number: u8, record: usize) -> Refusal {
+        Refusal {
+            number,
+            record: Some(record as u8),
+        }
+    }
+
+    /// "By the host", "By the client"
+    pub fn without_record(number: u8) -> Refusal {
+        Refusal {
+            number,
+            record: None,
+        }
+    }
+}
+
+/// An accepted policy's rules of each kind, in the order of the records.
+#[derive(Clone, Default)]
+pub struct Policy {
+    pub access: Vec<Record>,
+    pub disclosure: Vec<Record>,
+}
+
+/// The atoms of a set: "A set of atoms is a 64-bit number, bit k standing for atom k"
+pub fn atoms(set: u64) -> impl Iterator<Item = u8> {
+    (0..64).filter(move |atom| set >> atom & 1 == 1)
+}
+
+/// "Bytes 2 to 9 are the set of atoms that must hold, bytes 10 to 17 the set that must not, both little-endian."
+pub fn read(bytes: &[u8]) -> Record {
+    Record {
+        kind: bytes[0],
+        head: bytes[1],
+        positive: little_endian(&bytes[2..10]),
+        negative: little_endian(&bytes[10..18]),
+    }
+}
+
+fn little_endian(bytes: &[u8]) -> u64 {
+    bytes
+        .iter()
+        .rev()
+        .fold(0, |number, byte| number << 8 | u64::from(*byte))
+}
+
+/// "The level of atoms 0 to 62 is the number divided by 8, rounded down; of 63 it is 8."
+pub fn level(atom: u8) -> u8 {
+    if atom == BREACH {
+        8
+    } else {
+        atom / 8
+    }
+}
+
+/// "An access head is 16 to 63." "A disclosure head is 0 to 15"
+fn head_allowed(record: &Record) -> bool {
+    if record.kind == ACCESS {
+        (16..=63).contains(&record.head)
+    } else {
+        record.head <= 15
+    }
+}
+
+/// "Atom 63 stands in no body." "its body has only credentials, none negated"
+fn body_allowed(record: &Record) -> bool {
+    if record.kind == ACCESS {
+        (record.positive | record.negative) >> BREACH == 0
+    } else {
+        record.positive <= 0xffff && record.negative == 0
+    }
+}
+
+/// "In an access rule no positive atom's level is above the head's, and every negated atom's level is smaller than the head's."
+fn levels_kept(record: &Record) -> bool {
+    let head = level(record.head);
+    record.kind != ACCESS
+        || atoms(record.positive).all(|atom| level(atom) <= head)
+            && atoms(record.negative).all(|atom| level(atom) < head)
+}
+
+/// "3: kind neither 1 nor 2. 4: head not allowed for the kind. 5: body atom not allowed for the kind. 6: level broken."
+fn fault(record: &Record) -> Option<u8> {
+    if record.kind != ACCESS && record.kind != DISCLOSURE {
+        Some(3)
+    } else if !head_allowed(record) {
+        Some(4)
+    } else if !body_allowed(record) {
+        Some(5)
+    } else if !levels_kept(record) {
+        Some(6)
+    } else {
+        None
+    }
+}
+
+/// The policy's test: "records are tested in turn, each by 3 to 6, so a 6 at record 0 comes before a 3 at record 1"
+pub fn check(policy: &[u8]) -> Result<Policy, Refusal> {
+    if policy.len() > MOST_BYTES {
+        return Err(Refusal::by_writer(1, 128));
+    }
+    if !policy.len().is_multiple_of(RECORD_BYTES) {
+        return Err(Refusal::by_writer(2, policy.len() / RECORD_BYTES));
+    }
+    let mut rules = Policy::default();
+    for (k, bytes) in policy.chunks(RECORD_BYTES).enumerate() {
+        let record = read(bytes);
+        if let Some(number) = fault(&record) {
+            return Err(Refusal::by_writer(number, k));
+        }
+        if record.kind == ACCESS {
+            rules.access.push(record);
+        } else {
+            rules.disclosure.push(record);
+        }
+    }
+    Ok(rules)
+}

@@ -1,0 +1,185 @@
+//! Scenarios: a random policy with some calls. Those with whole lists of rounds are in `play`.
+
+use crate::calls::{refusal_of, Call, Memory};
+use crate::counts::Kind;
+use crate::damage::{boundary, damaged};
+use crate::definition;
+use crate::plain::interface::decode;
+use crate::plain::policy::Record;
+use crate::play::{changing_list, cooperative_lists, lists};
+use crate::policies;
+use crate::sessions;
+use crate::tester::Tester;
+
+/// The services that a policy has rules for.
+fn services(records: &[Record]) -> Vec<u16> {
+    let heads = records.iter().map(|record| u16::from(record.head));
+    heads.filter(|head| (16..63).contains(head)).collect()
+}
+
+/// The credentials that a policy speaks of.
+fn named(records: &[Record]) -> u16 {
+    records.iter().fold(0, |set, record| {
+        let head = if record.head < 16 {
+            1 << record.head
+        } else {
+            0
+        };
+        set | head | record.positive as u16 | record.negative as u16
+    })
+}
+
+/// A service of the policy's, mostly.
+pub(crate) fn request(tester: &mut Tester, records: &[Record]) -> u16 {
+    let services = services(records);
+    if services.is_empty() || tester.random.one_in(12) {
+        tester.random.range(16, 62) as u16
+    } else {
+        tester.random.pick(&services)
+    }
+}
+
+/// Credentials of the policy's, or any.
+pub(crate) fn credentials(tester: &mut Tester, records: &[Record]) -> u16 {
+    if tester.random.one_in(5) {
+        tester.random.word()
+    } else {
+        tester.random.credentials(named(records))
+    }
+}
+
+fn openings(tester: &mut Tester) {
+    tester.set_policy(Vec::new());
+    for _ in 0..6 {
+        let request = match tester.random.below(4) {
+            0 => tester.random.pick(&sessions::NO_SERVICES),
+            1 => tester.random.pick(&[16, 17, 61, 62]),
+            2 => tester.random.below(80) as u16,
+            _ => tester.random.word(),
+        };
+        let memory = tester.memory();
+        tester.case(Kind::Open, Call::Open(request), memory);
+    }
+}
+
+/// The policy's test, models and disclosable sets of an accepted policy.
+fn sets(tester: &mut Tester) {
+    let records = policies::accepted(&mut tester.random);
+    tester.set_policy(policies::encode(&records));
+    let memory = tester.memory();
+    tester.case(Kind::CheckAccepted, Call::Check, memory);
+    for _ in 0..5 {
+        let set = credentials(tester, &records);
+        let memory = tester.memory();
+        tester.case(Kind::Model, Call::Model(set), memory);
+    }
+    for _ in 0..3 {
+        let set = credentials(tester, &records);
+        let memory = tester.memory();
+        tester.case(Kind::Disclosable, Call::Disclosable(set), memory);
+    }
+}
+
+fn boundaries(tester: &mut Tester) {
+    let policy = boundary(&mut tester.random);
+    tester.set_policy(policy);
+    let memory = tester.memory();
+    tester.case(Kind::CheckBoundary, Call::Check, memory);
+}
+
+/// Every call that reads the policy, with a damaged one.
+fn damages(tester: &mut Tester) {
+    let policy = damaged(&mut tester.random);
+    tester.set_policy(policy);
+    let memory = tester.memory();
+    tester.case(Kind::CheckDamaged, Call::Check, memory);
+    let set = tester.random.word();
+    match tester.random.below(6) {
+        0 => {
+            let memory = tester.memory();
+            tester.case(Kind::ModelDamaged, Call::Model(set), memory);
+        }
+        1 => {
+            let memory = tester.memory();
+            tester.case(Kind::DisclosableDamaged, Call::Disclosable(set), memory);
+        }
+        2 | 3 => {
+            let session = any_session(tester, 16, 0xff).1;
+            let memory = tester.memory_with(session);
+            tester.case(Kind::RoundDamaged, Call::Round(set), memory);
+        }
+        _ => {}
+    }
+}
+
+/// Ten bytes of some kind.
+fn any_session(tester: &mut Tester, request: u16, named: u16) -> (Kind, [u8; 10]) {
+    let random = &mut tester.random;
+    let encode = crate::plain::interface::encode;
+    match random.below(10) {
+        0..=4 => (
+            Kind::RoundSound,
+            encode(&sessions::sound(random, request, named)),
+        ),
+        5..=7 => (
+            Kind::RoundUnsound,
+            encode(&sessions::unsound(random, request, named)),
+        ),
+        8 => (Kind::RoundAnyBytes, sessions::any(random)),
+        _ => (Kind::RoundNoSession, sessions::none(random, request, named)),
+    }
+}
+
+/// Single rounds in sessions of every kind, under an accepted policy.
+fn single_rounds(tester: &mut Tester) {
+    let records = policies::accepted(&mut tester.random);
+    tester.set_policy(policies::encode(&records));
+    for _ in 0..8 {
+        let request = request(tester, &records);
+        let (kind, session) = any_session(tester, request, named(&records));
+        let memory = tester.memory_with(session);
+        rounds_from(tester, &records, kind, memory);
+    }
+}
+
+/// A round, and sometimes the next ones in the session that it gives.
+fn rounds_from(tester: &mut Tester, records: &[Record], kind: Kind, mut memory: Memory) {
+    loop {
+        let p = match tester.random.below(3) {
+            0 => 0,
+            _ => credentials(tester, records),
+        };
+        let Some((reply, after)) = tester.case(kind, Call::Round(p), memory) else {
+            return;
+        };
+        still_sound(tester, reply, Call::Round(p), after);
+        if refusal_of(reply) != 0 || tester.random.one_in(2) {
+            return;
+        }
+        memory = after;
+    }
+}
+
+/// "Every session that opening and rounds give is sound"
+pub(crate) fn still_sound(tester: &mut Tester, reply: u32, call: Call, memory: Memory) {
+    let session = decode(memory.session());
+    if refusal_of(reply) == 0 && !session.is_some_and(|s| definition::sound(&s)) {
+        let answers = vec![format!("reply {reply:08x}")];
+        tester.found("an unsound session given".into(), call, memory, answers);
+    }
+}
+
+/// One scenario.
+pub fn scenario(tester: &mut Tester) {
+    match tester.random.below(100) {
+        0..=2 => openings(tester),
+        3..=15 => sets(tester),
+        16..=29 => boundaries(tester),
+        30..=51 => damages(tester),
+        52..=62 => single_rounds(tester),
+        63..=81 => lists(tester),
+        82..=92 => cooperative_lists(tester),
+        _ => changing_list(tester),
+    }
+    tester.trail = None;
+}

@@ -1,0 +1,181 @@
+//! Versions that are wrong on purpose, each by one slip: the tests must find out every one of them.
+
+mod model;
+mod policy;
+mod round;
+
+use crate::calls::{Call, Memory, Version};
+use crate::plain::interface::refusal_reply;
+use crate::plain::policy::Refusal;
+
+#[derive(Clone, Copy, PartialEq, Eq, Debug)]
+pub enum Slip {
+    None,
+    BreachUnread,
+    NotTooEarly,
+    Irreducible,
+    AskedAgain,
+    DeclineForgotten,
+    DeclinedOutFirst,
+    DenyUnlooked,
+    AsksAll,
+    Repeats,
+    Untouched,
+    CountInvented,
+    AllAlike,
+    RefusesAll,
+    CountBound,
+    LengthBound,
+    PositiveLevel,
+    NegativeLevel,
+    RecordOrder,
+    LargestTie,
+    BigEndian,
+    NeverDeclined,
+    ShownUndeclined,
+    NineBeforeEight,
+    PolicyLast,
+    RequestCut,
+    BreachLevel,
+    OnePass,
+    OnePassDisclosure,
+    HeadCut,
+    BreachInBody,
+    SetWritten,
+    GuardWritten,
+    QuestionOverlap,
+    LastRecord,
+    LargeQuestion,
+    SixPasses,
+    SixteenRounds,
+    LastCredential,
+    TwoHundredTrials,
+}
+
+/// Each slip with what is wrong.
+pub const SLIPS: [(Slip, &str); 39] = [
+    (
+        Slip::BreachUnread,
+        "grants on the service alone, the breach mark unread",
+    ),
+    (
+        Slip::NotTooEarly,
+        "reads \"not\" before the lower level is finished",
+    ),
+    (
+        Slip::Irreducible,
+        "asks for a set that cannot be made smaller, not the one with fewest",
+    ),
+    (Slip::AskedAgain, "asks again for what was declined"),
+    (
+        Slip::DeclineForgotten,
+        "forgets a decline when another credential is shown",
+    ),
+    (
+        Slip::DeclinedOutFirst,
+        "takes declined ones out before the disclosure rules are closed over",
+    ),
+    (Slip::DenyUnlooked, "denies before looking through D"),
+    (Slip::AsksAll, "asks for all of D"),
+    (
+        Slip::Repeats,
+        "settles its question in round 1 and repeats it",
+    ),
+    (Slip::Untouched, "hands the session back untouched"),
+    (Slip::CountInvented, "invents the round count"),
+    (Slip::AllAlike, "answers every client alike"),
+    (Slip::RefusesAll, "refuses all comers"),
+    (Slip::CountBound, "soundness: count up to 2 plus the ones"),
+    (Slip::LengthBound, "2,304 bytes refused 1"),
+    (
+        Slip::PositiveLevel,
+        "positive atom of the head's own level refused 6",
+    ),
+    (
+        Slip::NegativeLevel,
+        "negated atom of the head's own level accepted",
+    ),
+    (
+        Slip::RecordOrder,
+        "a 3 at record 1 comes before a 6 at record 0",
+    ),
+    (Slip::LargestTie, "ties broken by the largest number"),
+    (Slip::BigEndian, "sets read big-endian"),
+    (
+        Slip::NeverDeclined,
+        "what is asked and not shown is not added to N",
+    ),
+    (
+        Slip::ShownUndeclined,
+        "a credential shown after all leaves N",
+    ),
+    (Slip::NineBeforeEight, "an unsound closed session refused 9"),
+    (Slip::PolicyLast, "7 to 9 tested before the policy"),
+    (Slip::RequestCut, "the request cut to eight bits"),
+    (Slip::BreachLevel, "63 taken to be of level 7"),
+    (Slip::OnePass, "one pass over each level of the model"),
+    (
+        Slip::OnePassDisclosure,
+        "one pass over the disclosure rules",
+    ),
+    (Slip::HeadCut, "the head cut to six bits"),
+    (Slip::BreachInBody, "atom 63 allowed in a body"),
+    (
+        Slip::SetWritten,
+        "the set cleared where the policy is refused",
+    ),
+    (Slip::GuardWritten, "one byte written after the session"),
+    (
+        Slip::QuestionOverlap,
+        "soundness: Q may share credentials with N",
+    ),
+    (
+        Slip::LastRecord,
+        "record 127 tested, but no rule of the model",
+    ),
+    (
+        Slip::LargeQuestion,
+        "no set of more than six credentials tried",
+    ),
+    (Slip::SixPasses, "at most six passes over a level"),
+    (Slip::SixteenRounds, "denies in round 17 whatever is shown"),
+    (Slip::LastCredential, "credential 15 never asked for"),
+    (Slip::TwoHundredTrials, "gives up after 200 candidates"),
+];
+
+/// The plain version with a slip in it.
+pub struct Slipped(pub Slip);
+
+impl Slipped {
+    fn is(&self, slip: Slip) -> bool {
+        self.0 == slip
+    }
+
+    fn call_set(&self, call: Call, policy: &[u8], memory: &mut Memory) -> Result<u32, Refusal> {
+        let rules = self.check(policy);
+        if self.is(Slip::SetWritten) && rules.is_err() {
+            memory.set_credentials(0);
+        }
+        let rules = rules?;
+        match call {
+            Call::Model(set) => memory.set_model(self.model(&rules.access, set)),
+            Call::Disclosable(set) => {
+                memory.set_credentials(self.disclosable(&rules.disclosure, set));
+            }
+            _ => {}
+        }
+        Ok(0)
+    }
+}
+
+impl Version for Slipped {
+    fn call(&mut self, call: Call, policy: &mut [u8], memory: &mut Memory) -> u32 {
+        let answer = match call {
+            Call::Check => self.check(policy).map(|_| 0),
+            Call::Model(_) | Call::Disclosable(_) => self.call_set(call, policy, memory),
+            Call::Open(request) => Ok(self.call_open(request, memory)),
+            Call::Round(p) => self.call_round(policy, p, memory),
+        };
+        answer.unwrap_or_else(refusal_reply)
+    }
+}

@@ -1,0 +1,87 @@
+//! Slips in the policy's test.
+
+use super::{Slip, Slipped};
+use crate::plain::policy::{atoms, level, read, Policy, Record, Refusal};
+
+impl Slipped {
+    fn read(&self, bytes: &[u8]) -> Record {
+        let mut record = read(bytes);
+        if self.is(Slip::BigEndian) {
+            record.positive = record.positive.swap_bytes();
+            record.negative = record.negative.swap_bytes();
+        }
+        if self.is(Slip::HeadCut) {
+            record.head &= 63;
+        }
+        record
+    }
+
+    fn level(&self, atom: u8) -> u8 {
+        if self.is(Slip::BreachLevel) {
+            atom / 8
+        } else {
+            level(atom)
+        }
+    }
+
+    fn levels_broken(&self, record: &Record) -> bool {
+        let head = self.level(record.head);
+        let positive = |atom| {
+            let own = self.level(atom);
+            own > head || self.is(Slip::PositiveLevel) && own == head
+        };
+        let negative = |atom| {
+            let own = self.level(atom);
+            own > head || own == head && !self.is(Slip::NegativeLevel)
+        };
+        atoms(record.positive).any(positive) || atoms(record.negative).any(negative)
+    }
+
+    fn fault(&self, record: &Record) -> Option<u8> {
+        let access = record.kind == 1;
+        let body = record.positive | record.negative;
+        let breach = body >> 63 == 1 && !self.is(Slip::BreachInBody);
+        match (record.kind, record.head) {
+            (1, 16..=63) | (2, 0..=15) => {}
+            (1 | 2, _) => return Some(4),
+            _ => return Some(3),
+        }
+        if access && breach || !access && (record.positive > 0xffff || record.negative != 0) {
+            return Some(5);
+        }
+        (access && self.levels_broken(record)).then_some(6)
+    }
+
+    /// The record number and number of the fault that is given.
+    fn first_fault(&self, records: &[Record]) -> Option<(usize, u8)> {
+        let mut faults = records
+            .iter()
+            .enumerate()
+            .filter_map(|(k, record)| Some((k, self.fault(record)?)));
+        if self.is(Slip::RecordOrder) {
+            faults.min_by_key(|(k, number)| (*number, *k))
+        } else {
+            faults.next()
+        }
+    }
+
+    pub(super) fn check(&self, policy: &[u8]) -> Result<Policy, Refusal> {
+        if self.is(Slip::RefusesAll) {
+            return Err(Refusal::by_writer(3, 0));
+        }
+        if policy.len() > 2304 - usize::from(self.is(Slip::LengthBound)) {
+            return Err(Refusal::by_writer(1, 128));
+        }
+        if !policy.len().is_multiple_of(18) {
+            return Err(Refusal::by_writer(2, policy.len() / 18));
+        }
+        let records: Vec<Record> = policy.chunks(18).map(|bytes| self.read(bytes)).collect();
+        if let Some((k, number)) = self.first_fault(&records) {
+            return Err(Refusal::by_writer(number, k));
+        }
+        let most = if self.is(Slip::LastRecord) { 127 } else { 128 };
+        let read = records.iter().take(most);
+        let (access, disclosure) = read.partition(|record| record.kind == 1);
+        Ok(Policy { access, disclosure })
+    }
+}

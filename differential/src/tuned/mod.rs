@@ -1,0 +1,106 @@
+//! A tuned plain Rust version, for the benchmark: the same way of going about it as the gate's, as fast as ordinary safe scalar
+//! Rust makes it. The differential tests hold it against the plain version too.
+
+mod check;
+mod rules;
+mod search;
+
+pub use check::check;
+
+use crate::calls::{Call, Memory, Version};
+use crate::plain::interface::{decode, encode, ending_reply, refusal_reply};
+use crate::plain::policy::Refusal;
+use crate::plain::session::{is_service, open, sound, Ending, Phase, Session, Verdict};
+use rules::{Access, Disclosures};
+use search::preferred;
+
+pub fn model(policy: &[u8], credentials: u16) -> Result<u64, Refusal> {
+    Ok(Access::new(check(policy)?).levels().model(credentials))
+}
+
+pub fn disclosable(policy: &[u8], shown: u16) -> Result<u16, Refusal> {
+    Ok(Disclosures::new(check(policy)?).disclosable(shown))
+}
+
+/// How a round under accepted records ends with this shown and declined.
+pub fn ending(records: &[[u8; 18]], service: u16, shown: u16, declined: u16) -> Ending {
+    let access = Access::new(records);
+    let levels = access.levels();
+    if levels.unlocks(service, shown) {
+        return Ending::Grant;
+    }
+    let disclosable = Disclosures::new(records).disclosable(shown);
+    match preferred(&levels, service, shown, disclosable & !shown & !declined) {
+        Some(asked) => Ending::Ask(asked),
+        None => Ending::Deny,
+    }
+}
+
+/// A round in a session, tested first.
+pub fn round(policy: &[u8], session: &Session, p: u16) -> Result<(Ending, Session), Refusal> {
+    let records = check(policy)?;
+    if !is_service(session.request) {
+        return Err(Refusal::without_record(7));
+    }
+    if !sound(session) {
+        return Err(Refusal::without_record(8));
+    }
+    let question = match session.phase {
+        Phase::Closed(_) => return Err(Refusal::without_record(9)),
+        Phase::Waiting(question) => question,
+        Phase::Fresh => 0,
+    };
+    let (shown, declined) = (session.shown | p, session.declined | question & !p);
+    let ending = ending(records, session.request, shown, declined);
+    let phase = match ending {
+        Ending::Grant => Phase::Closed(Verdict::Grant),
+        Ending::Deny => Phase::Closed(Verdict::Deny),
+        Ending::Ask(asked) => Phase::Waiting(asked),
+    };
+    let count = session.count + 1;
+    Ok((
+        ending,
+        Session {
+            request: session.request,
+            shown,
+            declined,
+            count,
+            phase,
+        },
+    ))
+}
+
+/// The tuned version as a version to be called.
+pub struct Tuned;
+
+fn call_round(policy: &[u8], p: u16, memory: &mut Memory) -> Result<u32, Refusal> {
+    let Some(session) = decode(memory.session()) else {
+        check(policy)?;
+        return Err(Refusal::without_record(8));
+    };
+    let (ending, next) = round(policy, &session, p)?;
+    memory.set_session(encode(&next));
+    Ok(ending_reply(ending))
+}
+
+impl Version for Tuned {
+    fn call(&mut self, call: Call, policy: &mut [u8], memory: &mut Memory) -> u32 {
+        let answer = match call {
+            Call::Check => check(policy).map(|_| 0),
+            Call::Model(credentials) => model(policy, credentials).map(|set| {
+                memory.set_model(set);
+                0
+            }),
+            Call::Disclosable(shown) => disclosable(policy, shown).map(|set| {
+                memory.set_credentials(set);
+                0
+            }),
+            Call::Open(request) => open(request).map(|fresh| {
+                memory.set_session(encode(&fresh));
+                0
+            }),
+            Call::Round(p) => call_round(policy, p, memory),
+        };
+        answer.unwrap_or_else(refusal_reply)
+    }
+}
