@@ -118,7 +118,12 @@ impl Shared {
 
 /// Whether the bench program gets to this call by itself.
 fn bench_replays(finding: &Finding) -> bool {
-    finding.trail.is_some() || matches!(finding.call, Call::Check | Call::Open(_))
+    let fresh = finding.before.session()[2..] == [0; 8];
+    match finding.call {
+        Call::Check | Call::Open(_) => true,
+        Call::Round(_) => finding.trail.is_some() || fresh,
+        Call::Model(_) | Call::Disclosable(_) => finding.trail.is_some(),
+    }
 }
 
 /// What the bench program would be given.
