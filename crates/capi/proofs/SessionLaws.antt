@@ -73,8 +73,7 @@ left-packed : (policy : List ℕ) (s : Session) (m : Move)
 unfolding round
 left-packed policy s m = go (roundRefusal policy s)
   where
-    go : (o : Option Refusal)
-        → leftBy (respond o (policyOf policy) s m .answer) (packed s) (respond o (policyOf policy) s m .session) ≡ packed (respond o (policyOf policy) s m .session)
+    go : (o : Option Refusal) → let x = respond o (policyOf policy) s m in leftBy (x .answer) (packed s) (x .session) ≡ packed (x .session)
     go none = refl
     go (some f) = refl
 

@@ -22,12 +22,14 @@ of-policy-requires c κs = search needs
 returns : tie.Need-returns
 returns c =
     let k = c .before .before in
-    (check-gives (now (k .before .before .args .policy)) _ (sym (ap checkedOf (c .enum-told .given .1)) ∙ k .check .ensures .0), refl)
+    let accepted = sym (ap checkedOf (c .enum-told .given .1)) ∙ k .check .ensures .0 in
+    (check-gives (now (k .before .before .args .policy)) _ accepted, refl)
 
 returns-2 : tie.Need-returns-2
 returns-2 c =
     let k = c .before .before .before .before in
-    (c .of-policy .ensures ∙ check-gives (now (k .before .before .args .policy)) _ (sym (ap checkedOf (c .before .before .refusal .given .1)) ∙ k .check .ensures .0), refl)
+    let refused = sym (ap checkedOf (c .before .before .refusal .given .1)) ∙ k .check .ensures .0 in
+    (c .of-policy .ensures ∙ check-gives (now (k .before .before .args .policy)) _ refused, refl)
 
 pub gate-check-spec : {M : Type 1} → statement M
 gate-check-spec =

@@ -24,7 +24,8 @@ returns : tie.Need-returns
 returns c =
     let k = c .before .before .before in
     let a = k .before .before .before .args in
-    let is = none-gives (now (a .policy)) (now (a .session)) (a .shown) (sym (ap unpackedOf (c .before .enum-told .given .1)) ∙ k .unpack .ensures) _ (c .no-session .ensures) in
+    let none-in = sym (ap unpackedOf (c .before .enum-told .given .1)) ∙ k .unpack .ensures in
+    let is = none-gives (now (a .policy)) (now (a .session)) (a .shown) none-in _ (c .no-session .ensures) in
     (is .0, (is .1, refl))
 
 round-requires : tie.Need-round-requires
@@ -50,8 +51,10 @@ returns-2 c =
     let round = c .before .before .before .before .before .before in
     let k = round .before .before .before .before in
     let a = k .before .before .before .args in
-    let is = ends-gives (now (a .policy)) (now (a .session)) (a .shown) _ (sym (ap unpackedOf (round .before .before .held .given .1)) ∙ k .unpack .ensures)
-    (outcomeOf (round .round .result)) (round .round .ensures .0) _ (ap answerOf (c .before .before .before .answer .given .1)) _ (c .of-ending .ensures) _ (c .before .pack .ensures) in
+    let some-in = sym (ap unpackedOf (round .before .before .held .given .1)) ∙ k .unpack .ensures in
+    let ended = ap answerOf (c .before .before .before .answer .given .1) in
+    let is = ends-gives (now (a .policy)) (now (a .session)) (a .shown) _ some-in (outcomeOf (round .round .result)) (round .round .ensures .0) _ ended _
+    (c .of-ending .ensures) _ (c .before .pack .ensures) in
     (is .0, (is .1, refl))
 
 returns-3 : tie.Need-returns-3
@@ -59,8 +62,10 @@ returns-3 c =
     let round = c .before .before .before .before .before in
     let k = round .before .before .before .before in
     let a = k .before .before .before .args in
-    let is = refusal-gives (now (a .policy)) (now (a .session)) (a .shown) _ (sym (ap unpackedOf (round .before .before .held .given .1)) ∙ k .unpack .ensures)
-    (outcomeOf (round .round .result)) (round .round .ensures .0) _ (ap answerOf (c .before .before .answer2 .given .1)) _ (c .of-refusal .ensures) in
+    let some-in = sym (ap unpackedOf (round .before .before .held .given .1)) ∙ k .unpack .ensures in
+    let refused = ap answerOf (c .before .before .answer2 .given .1) in
+    let is = refusal-gives (now (a .policy)) (now (a .session)) (a .shown) _ some-in (outcomeOf (round .round .result)) (round .round .ensures .0) _ refused
+    _ (c .of-refusal .ensures) in
     (is .0, (is .1, refl))
 
 pub gate-round-spec : {M : Type 1} → statement M

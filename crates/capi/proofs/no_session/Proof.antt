@@ -22,7 +22,9 @@ returns : tie.Need-returns
 returns c = ap noSessionReply (sym (ap checkedOf (c .enum-told .given .1)) ∙ c .before .before .check .ensures .0)
 
 returns-2 : tie.Need-returns-2
-returns-2 c = c .of-policy .ensures ∙ ap noSessionReply (sym (ap checkedOf (c .before .before .checked .given .1)) ∙ c .before .before .before .before .check .ensures .0)
+returns-2 c =
+    let refused = sym (ap checkedOf (c .before .before .checked .given .1)) ∙ c .before .before .before .before .check .ensures .0 in
+    c .of-policy .ensures ∙ ap noSessionReply refused
 
 pub no-session-spec : {M : Type 1} → statement M
 no-session-spec =

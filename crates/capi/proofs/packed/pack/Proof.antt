@@ -1,12 +1,20 @@
 -- `capi::packed::pack` meets its contract: one case for each phase. Assumes nothing.
-use mathlib.Core.Path.{_∙_, ap, sym}
+use mathlib.Core.Path.{_∙_, _≡_, ap, sym}
 use Rattle.session.specs.Sessions.{question}
 use Rattle.session.specs.Types.{phaseOf, sessionOf}
+use Rattle.session.specs.declared.Phase.{Phase}
 use Rattle.capi.specs.Packed.{tag}
 use Rattle.capi.proofs.PackLaws.{packs}
 use borrow.Author.Needs.{needs}
 use Rattle.capi.proofs.packed.pack.Statement.{statement}
 use Rattle.capi.proofs.packed.pack.Tie as tie
+
+-- what is read off a phase
+tags : {f g : Phase} → f ≡ g → tag (phaseOf f) ≡ tag (phaseOf g)
+tags = ap (λ f. tag (phaseOf f))
+
+asks : {f g : Phase} → f ≡ g → question (phaseOf f) .asks ≡ question (phaseOf g) .asks
+asks = ap (λ f. question (phaseOf f) .asks)
 
 enum-told : tie.Need-enum-told
 enum-told c = search needs
@@ -32,20 +40,18 @@ pack-as-requires-3 c κs = search needs
 returns : tie.Need-returns
 returns c =
     let told = c .before .enum-told .given .1 in
-    c .pack-as .ensures
-    ∙ packs (sessionOf (c .before .before .before .args .session)) _ _ (sym (ap (λ f. tag (phaseOf f)) told)) (sym (ap (λ f. question (phaseOf f) .asks) told))
+    c .pack-as .ensures ∙ packs (sessionOf (c .before .before .before .args .session)) _ _ (sym (tags told)) (sym (asks told))
 
 returns-2 : tie.Need-returns-2
 returns-2 c =
     let told = c .before .before .phase .given .1 in
-    c .pack-as2 .ensures
-    ∙ packs (sessionOf (c .before .before .before .before .args .session)) _ _ (sym (ap (λ f. tag (phaseOf f)) told)) (sym (ap (λ f. question (phaseOf f) .asks) told))
+    c .pack-as2 .ensures ∙ packs (sessionOf (c .before .before .before .before .args .session)) _ _ (sym (tags told)) (sym (asks told))
 
 returns-3 : tie.Need-returns-3
 returns-3 c =
     let told = c .before .before .before .phase2 .given .1 in
-    c .pack-as3 .ensures
-    ∙ packs (sessionOf (c .before .before .before .before .before .args .session)) _ _ (c .before .closed-tag .ensures ∙ sym (ap (λ f. tag (phaseOf f)) told)) (sym (ap (λ f. question (phaseOf f) .asks) told))
+    let s = sessionOf (c .before .before .before .before .before .args .session) in
+    c .pack-as3 .ensures ∙ packs s _ _ (c .before .closed-tag .ensures ∙ sym (tags told)) (sym (asks told))
 
 pub pack-spec : {M : Type 1} → statement M
 pack-spec =

@@ -28,7 +28,16 @@ high-requires-4 : tie.Need-high-requires-4
 high-requires-4 c κs = search needs
 
 returns : tie.Need-returns
-returns c = simp (c .before .before .before .before .before .before .before .low .ensures, c .before .before .before .before .before .before .high .ensures, c .before .before .before .before .before .low2 .ensures, c .before .before .before .before .high2 .ensures, c .before .before .before .low3 .ensures, c .before .before .high3 .ensures, c .before .low4 .ensures, c .high4 .ensures)
+returns c = simp (
+  c .before .before .before .before .before .before .before .low .ensures,
+  c .before .before .before .before .before .before .high .ensures,
+  c .before .before .before .before .before .low2 .ensures,
+  c .before .before .before .before .high2 .ensures,
+  c .before .before .before .low3 .ensures,
+  c .before .before .high3 .ensures,
+  c .before .low4 .ensures,
+  c .high4 .ensures,
+)
 
 pub pack-as-spec : {M : Type 1} → statement M
 pack-as-spec =

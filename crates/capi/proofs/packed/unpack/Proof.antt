@@ -25,7 +25,8 @@ enum-told c = search needs
 returns : tie.Need-returns
 returns c =
     let k = c .before .before in
-    unpacks-none (now (k .before .before .before .args .bytes)) _ (k .before .number-at .ensures) (sym (ap taggedOf (c .enum-told .given .1)) ∙ k .phase-in .ensures)
+    let none-in = sym (ap taggedOf (c .enum-told .given .1)) ∙ k .phase-in .ensures in
+    unpacks-none (now (k .before .before .before .args .bytes)) _ (k .before .number-at .ensures) none-in
 
 number-at-requires-2 : tie.Need-number-at-requires-2
 number-at-requires-2 c κs = search needs
@@ -42,9 +43,9 @@ element-copy-out-t6 c = search needs
 returns-2 : tie.Need-returns-2
 returns-2 c =
     let k = c .before .before .before .before .before .before .before in
-    unpacks-some (now (k .before .before .before .args .bytes)) _ (k .before .number-at .ensures) _
-    (sym (ap taggedOf (c .before .before .before .before .before .tagged .given .1)) ∙ k .phase-in .ensures)
-    _ _ _ (c .before .before .before .number-at2 .ensures) (c .before .before .number-at3 .ensures) (c .before .number-at4 .ensures)
+    let some-in = sym (ap taggedOf (c .before .before .before .before .before .tagged .given .1)) ∙ k .phase-in .ensures in
+    unpacks-some (now (k .before .before .before .args .bytes)) _ (k .before .number-at .ensures) _ some-in _ _ _
+    (c .before .before .before .number-at2 .ensures) (c .before .before .number-at3 .ensures) (c .before .number-at4 .ensures)
 
 pub unpack-spec : {M : Type 1} → statement M
 unpack-spec =
