@@ -6,12 +6,12 @@ use super::policy::{check, Refusal};
 use super::session::{open, round, Ending, Phase, Session, Verdict};
 use crate::calls::{Call, Memory, Version};
 
-/// "byte 0 is a refusal's number, 1 to 9; with 1 to 6 byte 1 is the record's number"
+/// "refused with that number, 1 to 9; with 1 to 6 byte 1 is the number of the policy's record"
 pub fn refusal_reply(refusal: Refusal) -> u32 {
     u32::from(refusal.number) | u32::from(refusal.record.unwrap_or(0)) << 8
 }
 
-/// "A round that is not refused has how it ended in byte 1 and an asked set above it."
+/// "byte 1 is 1 for grant, 2 for deny, 3 for a question, and then bytes 2 and 3 are the set asked for"
 pub fn ending_reply(ending: Ending) -> u32 {
     match ending {
         Ending::Grant => 1 << 8,
