@@ -77,13 +77,17 @@ fn call_open(request: u16, memory: &mut Memory) -> Result<u32, Refusal> {
     Ok(0)
 }
 
-/// Bytes that are no session are refused 8 after the policy's test.
-fn call_round(policy: &[u8], p: u16, memory: &mut Memory) -> Result<u32, Refusal> {
+/// A round on the lent record, by a version's own test and round. Bytes that are no session are refused 8 after the policy's test.
+pub fn call_round<P>(
+    memory: &mut Memory,
+    check: impl FnOnce() -> Result<P, Refusal>,
+    round: impl FnOnce(&Session) -> Result<(Ending, Session), Refusal>,
+) -> Result<u32, Refusal> {
     let Some(session) = decode(memory.session()) else {
-        check(policy)?;
+        check()?;
         return Err(Refusal::without_record(8));
     };
-    let (ending, next) = round(policy, &session, p)?;
+    let (ending, next) = round(&session)?;
     memory.set_session(encode(&next));
     Ok(ending_reply(ending))
 }
@@ -95,7 +99,7 @@ impl Version for Plain {
             Call::Model(credentials) => call_model(policy, credentials, memory),
             Call::Disclosable(shown) => call_disclosable(policy, shown, memory),
             Call::Open(request) => call_open(request, memory),
-            Call::Round(p) => call_round(policy, p, memory),
+            Call::Round(p) => call_round(memory, || check(policy), |s| round(policy, s, p)),
         };
         answer.unwrap_or_else(refusal_reply)
     }

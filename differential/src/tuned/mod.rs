@@ -8,7 +8,7 @@ mod search;
 pub use check::check;
 
 use crate::calls::{Call, Memory, Version};
-use crate::plain::interface::{decode, encode, ending_reply, refusal_reply};
+use crate::plain::interface::{call_round, encode, refusal_reply};
 use crate::plain::policy::Refusal;
 use crate::plain::session::{is_service, open, sound, Ending, Phase, Session, Verdict};
 use rules::{Access, Disclosures};
@@ -73,16 +73,6 @@ pub fn round(policy: &[u8], session: &Session, p: u16) -> Result<(Ending, Sessio
 /// The tuned version as a version to be called.
 pub struct Tuned;
 
-fn call_round(policy: &[u8], p: u16, memory: &mut Memory) -> Result<u32, Refusal> {
-    let Some(session) = decode(memory.session()) else {
-        check(policy)?;
-        return Err(Refusal::without_record(8));
-    };
-    let (ending, next) = round(policy, &session, p)?;
-    memory.set_session(encode(&next));
-    Ok(ending_reply(ending))
-}
-
 impl Version for Tuned {
     fn call(&mut self, call: Call, policy: &mut [u8], memory: &mut Memory) -> u32 {
         let answer = match call {
@@ -99,7 +89,7 @@ impl Version for Tuned {
                 memory.set_session(encode(&fresh));
                 0
             }),
-            Call::Round(p) => call_round(policy, p, memory),
+            Call::Round(p) => call_round(memory, || check(policy), |s| round(policy, s, p)),
         };
         answer.unwrap_or_else(refusal_reply)
     }
