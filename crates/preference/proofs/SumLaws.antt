@@ -1,0 +1,63 @@
+-- Sums over the numbers below n. Assumes nothing.
+use mathlib.Core.Path.{_∙_, _≡_, ap, refl, subst, sym}
+use mathlib.Core.Logic.{_≢_}
+use Prim.Native.Nat.{_*_, _+_, _-_, _<_, _≤_, suc, zero, ℕ}
+use native.Mathlib.Decide.{ℕ-discrete}
+use native.Mathlib.Nat.{not-suc-le-zero}
+use native.Mathlib.Numerals.{add-one}
+use native.Mathlib.Omega.{arith}
+use Rattle.preference.specs.Order.{sum}
+
+pub sum-same : (f g : ℕ → ℕ) (n : ℕ) → ((m : ℕ) → m < n → f m ≡ g m) → sum f n ≡ sum g n
+unfolding sum
+sum-same f g zero h = refl
+sum-same f g (suc n) h = omega (arith, sum-same f g n (λ m l. h m (omega arith)), h n (omega arith))
+
+pub sum-le : (f g : ℕ → ℕ) (n : ℕ) → ((m : ℕ) → m < n → f m ≤ g m) → sum f n ≤ sum g n
+unfolding sum
+sum-le f g zero h = omega arith
+sum-le f g (suc n) h = omega (arith, sum-le f g n (λ m l. h m (omega arith)), h n (omega arith))
+
+-- less at one number
+pub sum-lt : (f g : ℕ → ℕ) (n k : ℕ) → k < n → ((m : ℕ) → m < n → f m ≤ g m) → f k < g k → sum f n < sum g n
+unfolding sum
+sum-lt f g zero k l h s = absurd (not-suc-le-zero l)
+sum-lt f g (suc n) k l h s = go (ℕ-discrete k n) (λ l. sum-lt f g n k l (λ m l. h m (omega arith)) s)
+  where
+    go : Dec (k ≡ n) → (k < n → sum f n < sum g n) → sum f n + f n < sum g n + g n
+    go (yes e) _ =
+        let t : f n < g n = subst (λ (x : ℕ). f x < g x) e s in
+        omega (arith, sum-le f g n (λ m l. h m (omega arith)))
+    go (no d) ih = omega (arith, ih (omega arith), h n (omega arith))
+
+pub sum-none : (f : ℕ → ℕ) (n : ℕ) → ((m : ℕ) → m < n → f m ≡ 0) → sum f n ≡ 0
+unfolding sum
+sum-none f zero h = refl
+sum-none f (suc n) h = omega (arith, sum-none f n (λ m l. h m (omega arith)), h n (omega arith))
+
+pub sum-all : (f : ℕ → ℕ) (n : ℕ) → ((m : ℕ) → m < n → f m ≡ 1) → sum f n ≡ n
+unfolding sum
+sum-all f zero h = refl
+sum-all f (suc n) h = omega (arith, sum-all f n (λ m l. h m (omega arith)), h n (omega arith))
+
+-- from a on
+pub sum-add : (f : ℕ → ℕ) (a n : ℕ) → sum f (a + n) ≡ sum f a + sum (λ m. f (a + m)) n
+unfolding sum
+sum-add f a zero = let e : a + 0 ≡ a = omega arith in rw e (omega arith)
+sum-add f a (suc n) = let e : a + suc n ≡ suc (a + n) = omega arith in rw e (omega (arith, sum-add f a n))
+
+-- block by block
+pub sum-blocks : (f : ℕ → ℕ) (B : ℕ) → sum f (256 * B) ≡ sum (λ b. sum (λ x. f (256 * b + x)) 256) B
+unfolding sum
+sum-blocks f zero = refl
+sum-blocks f (suc B) =
+    let e : 256 * suc B ≡ 256 * B + 256 = omega arith in
+    ap (sum f) e ∙ sum-add f (256 * B) 256 ∙ ap (λ (x : ℕ). x + sum (λ x. f (256 * B + x)) 256) (sum-blocks f B)
+
+pub sum-start : (f : ℕ → ℕ) → sum f 0 ≡ 0
+unfolding sum
+sum-start f = refl
+
+pub sum-next : (f : ℕ → ℕ) (n : ℕ) → sum f (n + 1) ≡ sum f n + f n
+unfolding sum
+sum-next f n = rw add-one
