@@ -2,6 +2,10 @@
 pub mod PreferLaws
 pub mod SubsetLaws
 pub mod QuestionLaws
+pub mod TheoremsProof
 pub mod SumLaws
 pub mod OrderLaws
-pub mod TheoremsProof
+pub mod NumberLaws
+pub mod CostLaws
+pub mod ByCostLaws
+pub mod OrderTheoremsProof

@@ -151,7 +151,7 @@ module _ (cost : ℕ → ℕ) (test : ℕ → Bool) (N : ℕ) where
         inside = F .listed (λ m. m < N) (upTo-every (λ m. m < N) N (λ m l. l));
         passes = F .passes;
         first = λ m l b. is-false (test m) (λ t.
-          true≢false (sym (before-means cost m n .1 b) ∙ every-upTo (λ x. test x ≡ true → lexBefore (costKeys cost x) (costKeys cost n) ≡ false) N (F .first) m l t));
+            true≢false (sym (before-means cost m n .1 b) ∙ every-upTo (λ x. test x ≡ true → lexBefore (costKeys cost x) (costKeys cost n) ≡ false) N (F .first) m l t));
       }
 
   first-one : (m n : ℕ) → First cost test N m → First cost test N n → m ≡ n

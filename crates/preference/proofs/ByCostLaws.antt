@@ -1,0 +1,113 @@
+-- The order of cost over the subsets of D: by weight, size and number; with equal weights the first is the preferred question. Assumes nothing.
+use mathlib.Core.Path.{_∙_, _≡_, ap, refl, subst, sym}
+use mathlib.Core.Logic.{_↔_, _⊎_, inl, inr}
+use mathlib.Core.Bool.{Bool, false, true, true≢false}
+use mathlib.Core.Option.{Option, none, some}
+use Prim.Native.Nat.{_*_, _+_, _<_, _^_, _≤_, ℕ}
+use lib.Pow.{pow-mono}
+use native.Mathlib.Decide.{decLt, ℕ-discrete}
+use native.Mathlib.Omega.{arith}
+use Rattle.atoms.specs.Sets.{Subset, size}
+use Rattle.atoms.proofs.SizeLaws.{size-credentials}
+use Rattle.preference.specs.Preference.{lexBefore, preferred}
+use Rattle.preference.specs.Question.{Question, candidates, keys}
+use Rattle.preference.specs.Order.{Before, First, costOf, firstOf}
+use Rattle.preference.specs.Subsets.{subsetOf, total, weightsOf}
+use Rattle.preference.specs.OrderTheorems.{Lighter, equalWeights, questionAt, questionOf}
+use Rattle.preference.proofs.CostLaws.{weight-equal}
+use Rattle.preference.proofs.NumberLaws.{in-all, in-inside, in-lt, in-rising, in-size, in-weights, ones-size}
+use Rattle.preference.proofs.OrderLaws.{first-none, first-some}
+use Rattle.preference.proofs.QuestionLaws.{none-preferred, not-before, one-preferred}
+
+module _ (D : ℕ) (l : D < 2 ^ 16) where
+  pub all : (X : ℕ) → Subset X D → (n : ℕ) × (n < 2 ^ size D) × (subsetOf D n ≡ X)
+  all X f = rw (ones-size D l) at (in-all 16 D X l f)
+
+  pub rising : (m n : ℕ) → n < 2 ^ size D → m < n → subsetOf D m < subsetOf D n
+  rising m n k = in-rising 16 D m n (rw (ones-size D l) k)
+
+  falling : (m n : ℕ) → m < 2 ^ size D → subsetOf D m < subsetOf D n → m < n
+  falling m n k h = go (decLt m n) (decLt n m)
+    where
+      go : Dec (m < n) → Dec (n < m) → m < n
+      go (yes i) _ = i
+      go (no _) (yes j) = absurd (omega (arith, rising n m k j))
+      go (no i) (no j) = let e : subsetOf D m ≡ subsetOf D n = ap (subsetOf D) (omega arith) in absurd (omega arith)
+
+  top : 2 ^ size D ≤ 65536
+  top = pow-mono {i = size D} {j = 16} (size-credentials D l)
+
+  pub sized : (n : ℕ) → n < 2 ^ size D → size (subsetOf D n) ≡ size n
+  sized n k =
+      sym (ones-size (subsetOf D n) (in-lt 16 D n)) ∙ in-size 16 D n (rw (ones-size D l) k) ∙ ones-size n (omega (arith, top))
+
+  -- ---- any weights
+
+  module _ (w : ℕ → ℕ) (m n : ℕ) (i : m < 2 ^ size D) (j : n < 2 ^ size D) where
+    costed : (x : ℕ) → x < 2 ^ size D → (costOf (weightsOf w D) x ≡ 17 * total w (subsetOf D x) + size (subsetOf D x)) × (size (subsetOf D x) ≤ 16)
+    unfolding costOf
+    costed x k = (omega (arith, in-weights 16 w D x, sized x k), size-credentials (subsetOf D x) (in-lt 16 D x))
+
+    pub lightest : Before (costOf (weightsOf w D)) m n ↔ Lighter w (subsetOf D m) (subsetOf D n)
+    lightest = (forth, back)
+      where
+        a : (costOf (weightsOf w D) m ≡ 17 * total w (subsetOf D m) + size (subsetOf D m)) × (size (subsetOf D m) ≤ 16)
+        a = costed m i
+
+        b : (costOf (weightsOf w D) n ≡ 17 * total w (subsetOf D n) + size (subsetOf D n)) × (size (subsetOf D n) ≤ 16)
+        b = costed n j
+
+        forth : Before (costOf (weightsOf w D)) m n → Lighter w (subsetOf D m) (subsetOf D n)
+        forth (inl h) = go (decLt (total w (subsetOf D m)) (total w (subsetOf D n)))
+          where
+            go : Dec (total w (subsetOf D m) < total w (subsetOf D n)) → Lighter w (subsetOf D m) (subsetOf D n)
+            go (yes k) = inl k
+            go (no k) = inr (omega (arith, a .0, a .1, b .0, b .1), inl (omega (arith, a .0, a .1, b .0, b .1)))
+        forth (inr (e, h)) = inr (omega (arith, a .0, a .1, b .0, b .1), inr (omega (arith, a .0, a .1, b .0, b .1), rising m n j h))
+
+        back : Lighter w (subsetOf D m) (subsetOf D n) → Before (costOf (weightsOf w D)) m n
+        back (inl h) = inl (omega (arith, a .0, a .1, b .0, b .1))
+        back (inr (e, inl h)) = inl (omega (arith, a .0, b .0))
+        back (inr (e, inr (s, h))) = inr (omega (arith, a .0, b .0), falling m n i h)
+
+  -- ---- equal weights
+
+  module _ (test : Question → Bool) where
+    equal : (n : ℕ) → n < 2 ^ size D → costOf equalWeights n ≡ 18 * size (subsetOf D n)
+    unfolding costOf
+    equal n k = omega (arith, weight-equal 16 n, ones-size n (omega (arith, top)), sized n k)
+
+    -- x, the set of candidate m, does not come before candidate n
+    after : (n : ℕ) → First (costOf equalWeights) (λ n. test (questionAt D n)) (2 ^ size D) n
+        → (x : Question) → Subset (x .asks) D → test x ≡ true → lexBefore (keys x) (keys (questionAt D n)) ≡ false
+    after n f x i t = not-before x (questionAt D n) (λ h. none (inl (fewer h))) (λ e h. none (inr (as-many e, smaller h)))
+      where
+        o : (m : ℕ) × (m < 2 ^ size D) × (subsetOf D m ≡ x .asks)
+        o = all (x .asks) i
+
+        is : questionAt D (o .0) ≡ x
+        is = ap (λ (y : ℕ). record { asks = y }) (o .2)
+
+        none : Before (costOf equalWeights) (o .0) n → ⊥
+        none b = true≢false (sym t ∙ ap test (sym is) ∙ f .first (o .0) (o .1) b)
+
+        fewer : size (x .asks) < size (subsetOf D n) → costOf equalWeights (o .0) < costOf equalWeights n
+        fewer h = omega (arith, equal (o .0) (o .1), equal n (f .inside), ap size (o .2))
+
+        as-many : size (x .asks) ≡ size (subsetOf D n) → costOf equalWeights (o .0) ≡ costOf equalWeights n
+        as-many e = omega (arith, equal (o .0) (o .1), equal n (f .inside), ap size (o .2))
+
+        smaller : x .asks < subsetOf D n → o .0 < n
+        smaller h = falling (o .0) n (o .1) (omega (arith, o .2))
+
+    pub by-cost : questionOf D (firstOf (costOf equalWeights) (λ n. test (questionAt D n)) (2 ^ size D)) ≡ preferred keys test (candidates D)
+    by-cost = go (firstOf (costOf equalWeights) (λ n. test (questionAt D n)) (2 ^ size D)) refl
+      where
+        go : (a : Option ℕ) → firstOf (costOf equalWeights) (λ n. test (questionAt D n)) (2 ^ size D) ≡ a → questionOf D a ≡ preferred keys test (candidates D)
+        go none e =
+            sym (none-preferred test D l (λ q i.
+            let o = all (q .asks) i in
+            ap test (ap (λ (y : ℕ). record { asks = y }) (sym (o .2))) ∙ first-none (costOf equalWeights) (λ n. test (questionAt D n)) (2 ^ size D) e (o .0) (o .1)))
+        go (some n) e =
+            let f = first-some (costOf equalWeights) (λ n. test (questionAt D n)) (2 ^ size D) n e in
+            sym (one-preferred test D l (questionAt D n) (in-inside 16 D n) (f .passes) (after n f))

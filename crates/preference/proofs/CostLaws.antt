@@ -1,0 +1,93 @@
+-- The cost of a candidate: by its low and its high members, and at most so much. Assumes nothing.
+use mathlib.Core.Path.{_∙_, _≡_, ap, refl, sym}
+use mathlib.Core.List.{List, [], _∷_}
+use Prim.Native.Nat.{_%_, _*_, _+_, _/_, _<_, _^_, _≤_, suc, zero, ℕ}
+use lib.Arith.{lt-one}
+use lib.Count.{ones, ones-cat, onesIn}
+use lib.ListN.{drop, getD, replicate}
+use lib.Pow.{field, high, low, mod-mod-pow, pow-pos, shr-shr, split}
+use lib.Seq.{getD-drop}
+use native.Mathlib.Nat.{div-le-self, mod-le, mod-lt, one-mul, pow-suc}
+use native.Mathlib.Numerals.{add-one, one-add}
+use native.Mathlib.Omega.{arith}
+use Rattle.atoms.specs.Sets.{size}
+use Rattle.atoms.proofs.SizeLaws.{size-credentials, size-is}
+use Rattle.preference.specs.Order.{costOf, weightOf}
+
+-- ---- weights
+
+pub weight-empty : (ws : List ℕ) → weightOf ws 0 ≡ 0
+unfolding weightOf
+weight-empty [] = refl
+weight-empty (w ∷ ws) = omega (arith, weight-empty ws)
+
+weight-first : (ws : List ℕ) → weightOf ws 1 ≡ getD ws 0 0
+unfolding weightOf
+weight-first [] = refl
+weight-first (w ∷ ws) = omega (arith, weight-empty ws)
+
+-- the low k members, and the others
+pub weight-split : (k : ℕ) (ws : List ℕ) (n : ℕ) → weightOf ws n ≡ weightOf ws (n % 2 ^ k) + weightOf (drop k ws) (n / 2 ^ k)
+unfolding weightOf
+weight-split zero ws n =
+    let a : n % 1 ≡ 0 = omega arith in
+    let b : n / 1 ≡ n = omega arith in
+    rw (a, b) (omega (arith, weight-empty ws))
+weight-split (suc k) [] n = refl
+weight-split (suc k) (w ∷ ws) n =
+    let odd : n % 2 ^ suc k % 2 ≡ n % 2 = ap (λ (x : ℕ). n % 2 ^ x % 2) (sym (add-one k)) ∙ mod-mod-pow n k 1 in
+    let rest : n % 2 ^ suc k / 2 ≡ n / 2 % 2 ^ k = ap (λ (x : ℕ). n % 2 ^ x / 2) (sym (add-one k)) ∙ field n k 1 in
+    let top : n / 2 ^ suc k ≡ n / 2 / 2 ^ k = ap (λ (x : ℕ). n / 2 ^ x) (sym (one-add k)) ∙ sym (shr-shr n 1 k) in
+    rw (odd, rest, top) (omega (arith, weight-split k ws (n / 2)))
+
+-- one member more
+pub weight-add : (j : ℕ) (ws : List ℕ) (r : ℕ) → r < 2 ^ j → weightOf ws (2 ^ j + r) ≡ weightOf ws r + getD ws j 0
+weight-add j ws r l =
+    let e : 1 * 2 ^ j + r ≡ 2 ^ j + r = omega (arith, one-mul (2 ^ j)) in
+    let a : (2 ^ j + r) % 2 ^ j ≡ r = ap (λ (x : ℕ). x % 2 ^ j) (sym e) ∙ low 1 j l in
+    let b : (2 ^ j + r) / 2 ^ j ≡ 1 = ap (λ (x : ℕ). x / 2 ^ j) (sym e) ∙ high 1 j l in
+    weight-split j ws (2 ^ j + r) ∙ rw (a, b, weight-first (drop j ws), getD-drop j ws 0 0) (ap (λ (x : ℕ). weightOf ws r + getD ws x 0) (omega arith))
+
+once : (x w : ℕ) → x < 2 → x * w ≤ w
+once zero w l = omega arith
+once (suc zero) w l = omega arith
+once (suc (suc x)) w l = absurd (omega arith)
+
+-- k members weigh at most so much
+pub weight-most : (k : ℕ) (ws : List ℕ) (n : ℕ) → n < 2 ^ k → ((j : ℕ) → getD ws j 0 ≤ 255) → weightOf ws n ≤ 255 * k
+unfolding weightOf
+weight-most k [] n l h = omega arith
+weight-most zero (w ∷ ws) n l h = omega (arith, ap (weightOf (w ∷ ws)) (lt-one l), weight-empty (w ∷ ws))
+weight-most (suc k) (w ∷ ws) n l h =
+    omega (arith, once (n % 2) w (omega arith), h 0, weight-most k ws (n / 2) (omega (arith, pow-suc 2 k)) (λ j. h (suc j)))
+
+-- where each weighs 1, as much as there are members
+pub weight-equal : (k n : ℕ) → weightOf (replicate k 1) n ≡ onesIn k n
+unfolding weightOf onesIn
+weight-equal zero n = refl
+weight-equal (suc k) n = omega (arith, weight-equal k (n / 2))
+
+-- ---- sizes
+
+pub size-split : (k n : ℕ) → n < 2 ^ 64 → size n ≡ size (n % 2 ^ k) + size (n / 2 ^ k)
+size-split k n l =
+    let e : ones n ≡ ones (n / 2 ^ k) + ones (n % 2 ^ k) = ap ones (sym (split n k)) ∙ ones-cat k (n / 2 ^ k) (n % 2 ^ k) (mod-lt n (pow-pos k)) in
+    let a : n % 2 ^ k ≤ n = mod-le n (2 ^ k) in
+    let b : n / 2 ^ k ≤ n = div-le-self n (2 ^ k) in
+    omega (arith, e, size-is n l, size-is (n % 2 ^ k) (omega arith), size-is (n / 2 ^ k) (omega arith))
+
+-- ---- costs
+
+pub cost-empty : (ws : List ℕ) → costOf ws 0 ≡ 0
+unfolding costOf size onesIn
+cost-empty ws = omega (arith, weight-empty ws)
+
+-- the low k members, and the others
+pub cost-split : (k : ℕ) (ws : List ℕ) (n : ℕ) → n < 2 ^ 64 → costOf ws n ≡ costOf ws (n % 2 ^ k) + costOf (drop k ws) (n / 2 ^ k)
+unfolding costOf
+cost-split k ws n l = omega (arith, weight-split k ws n, size-split k n l)
+
+-- at most so much
+pub cost-most : (ws : List ℕ) (n : ℕ) → n < 2 ^ 16 → ((j : ℕ) → getD ws j 0 ≤ 255) → costOf ws n ≤ 69376
+unfolding costOf
+cost-most ws n l h = omega (arith, weight-most 16 ws n l h, size-credentials n l)
