@@ -1,0 +1,37 @@
+-- Keys of candidates. Candidate n = 256 * b + i stands in lane i of block b: the low eight members are the lane's, the others the block's. A lane or a
+-- block has a key of 32 bits, 256 times its cost and its number; a candidate has 65536 times its cost and its number. Assumes nothing.
+use mathlib.Core.Path.{_≡_}
+use mathlib.Core.List.{List}
+use Prim.Native.Nat.{_%_, _*_, _+_, _/_, _<_, _^_, _≤_, ℕ}
+use lib.ListN.{drop, getD, length}
+use Rattle.preference.specs.Order.{costOf, weightOf}
+
+-- past the key of any lane or block
+abbrev pub never : ℕ
+never = 1073741824
+
+-- the key of candidate n
+unfoldable pub keyOf : (ℕ → ℕ) → ℕ → ℕ
+keyOf cost n = 65536 * cost n + n
+
+-- what a lane adds to a candidate's key; a block adds 256 times its own
+abbrev pub widened : ℕ → ℕ
+widened x = 65536 * (x / 256) + x % 256
+
+-- the total weights with one member more
+pub record Extended (top weight : ℕ) (old new : List ℕ) : Type 0 where
+  pub long : length new ≡ length old
+  pub kept : (i : ℕ) → i < top → getD new i 0 ≡ getD old i 0
+  pub added : (i : ℕ) → i < top → getD new (top + i) 0 ≡ getD old i 0 + weight
+
+-- the total weights of the candidates of some members, from one on
+pub record Totals (weights : List ℕ) (from members : ℕ) (totals : List ℕ) : Type 0 where
+  pub long : length totals ≡ 256
+  pub each : (i : ℕ) → i < 2 ^ members → getD totals i 0 ≡ weightOf (drop from weights) i
+  pub small : (i : ℕ) → i < 2 ^ members → getD totals i 0 ≤ 255 * members
+
+-- their keys; past them never
+pub record Keys (weights : List ℕ) (from members : ℕ) (keys : List ℕ) : Type 0 where
+  pub each : (i : ℕ) → i < 2 ^ members → getD keys i 0 ≡ 256 * costOf (drop from weights) i + i
+  pub small : (i : ℕ) → i < 2 ^ members → getD keys i 0 < 16777216
+  pub beyond : (i : ℕ) → 2 ^ members ≤ i → i < 256 → getD keys i 0 ≡ never

@@ -1,0 +1,78 @@
+// Keys: 256 times the cost, and the number. In order of key is in order of cost, and of equal cost in order of number.
+ghost use mathlib.Core.Path.{_≡_};
+ghost use Prim.Native.Nat.{ℕ, _+_, _*_, _^_, _≤_, _<_};
+ghost use lib.ListN.{length, getD};
+ghost use Rattle.atoms.specs.Sets.{size};
+ghost use Rattle.ranking.specs.Keys.{Extended, Keys, Totals, never};
+use crate::NEVER;
+use atoms::AtomSet;
+
+// One member more: the candidates with it stand behind those without.
+fn extend(totals: &mut [u32; 256], top: usize, weight: u32)
+    requires { ⌜ (top ≤ 128) × (length (now totals) ≡ 256) × ((i : ℕ) → i < top → getD (now totals) i 0 + weight < 2 ^ 32) ⌝ }
+    ensures { λ _. ⌜ Extended top weight (now (totals .entry)) (now (totals .exit)) ⌝ }
+{
+    let mut i: usize = 0;
+    while i < top {
+        totals[top + i] = totals[i] + weight;
+        i += 1;
+    }
+}
+
+// A weight as it is counted.
+fn wide(weight: u8) -> u32
+    ensures { λ r. ⌜ (r ≡ weight) × (r ≤ 255) ⌝ }
+{
+    weight as u32
+}
+
+// The total weights of the candidates of at most eight members, from one on.
+fn totals(weights: &[u8; 16], from: usize, members: usize) -> [u32; 256]
+    requires { ⌜ (members ≤ 8) × (from + members ≤ 16) ⌝ }
+    ensures { λ r. ⌜ Totals (now (weights .entry)) from members r ⌝ }
+{
+    let mut totals = [0u32; 256];
+    let mut top: usize = 1;
+    let mut j: usize = 0;
+    while j < members {
+        let weight = wide(weights[from + j]);
+        extend(&mut totals, top, weight);
+        top = 2 * top;
+        j += 1;
+    }
+    totals
+}
+
+// The key of a candidate: 17 times its weight and the count of its ones are its cost.
+fn key(total: u32, candidate: u32) -> u32
+    requires { ⌜ (total ≤ 2040) × (candidate < 256) ⌝ }
+    ensures { λ r. ⌜ r ≡ 256 * (17 * total + size candidate) + candidate ⌝ }
+{
+    let ones = AtomSet {
+        bits: candidate as u64,
+    }.count();
+    256 * (17 * total + ones) + candidate
+}
+
+// No candidate yet.
+fn blank() -> [u32; 256]
+    ensures { λ r. ⌜ (length r ≡ 256) × ((i : ℕ) → i < 256 → getD r i 0 ≡ never) ⌝ }
+{
+    [NEVER; 256]
+}
+
+// The keys of the candidates of at most eight members, from one on; past them NEVER.
+pub fn keys(weights: &[u8; 16], from: usize, members: usize) -> [u32; 256]
+    requires { ⌜ (members ≤ 8) × (from + members ≤ 16) ⌝ }
+    ensures { λ r. ⌜ Keys (now (weights .entry)) from members r ⌝ }
+{
+    let totals = totals(weights, from, members);
+    let count = 1usize << members;
+    let mut keys = blank();
+    let mut i: usize = 0;
+    while i < count {
+        keys[i] = key(totals[i], i as u32);
+        i += 1;
+    }
+    keys
+}
