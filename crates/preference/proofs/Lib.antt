@@ -3,6 +3,8 @@ pub mod PreferLaws
 pub mod SubsetLaws
 pub mod QuestionLaws
 pub mod TheoremsProof
+pub mod XorLaws
+pub mod SwitchLaws
 pub mod SumLaws
 pub mod OrderLaws
 pub mod NumberLaws

@@ -2,6 +2,7 @@
 pub mod Preference
 pub mod Question
 pub mod Candidates
+pub mod Switching
 pub mod Order
 pub mod Subsets
 pub mod InArrays

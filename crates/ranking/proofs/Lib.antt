@@ -3,3 +3,6 @@ pub mod KeyLaws
 pub mod NextLaws
 pub mod LaneLaws
 pub mod PlaceLaws
+pub mod SettledLaws
+pub mod GridLaws
+pub mod RankLaws

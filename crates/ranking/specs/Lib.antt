@@ -3,3 +3,4 @@ pub mod Keys
 pub mod Next
 pub mod Cheapest
 pub mod Place
+pub mod Grid

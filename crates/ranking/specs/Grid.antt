@@ -1,0 +1,34 @@
+-- The candidates below N as a grid of lanes and blocks, and what a search over it has settled. Assumes nothing.
+use mathlib.Core.Path.{_≡_}
+use mathlib.Core.Logic.{_↔_, _⊎_}
+use mathlib.Core.Bool.{Bool, true}
+use mathlib.Core.List.{List}
+use Prim.Native.Nat.{_%_, _*_, _+_, _<_, _≤_, ℕ}
+use lib.ListN.{getD}
+use Rattle.preference.specs.Order.{Before, sum}
+use Rattle.ranking.specs.Keys.{never, widened}
+use Rattle.ranking.specs.Place.{below}
+
+-- past the key of any candidate
+abbrev pub neverKey : ℕ
+neverKey = 274877906944
+
+-- the keys of the candidates below N stand in order of cost and number, all below a bound
+pub record Ranked (cost key : ℕ → ℕ) (N bound : ℕ) : Type 0 where
+  pub less : (m n : ℕ) → m < N → n < N → (key m < key n) ↔ Before cost m n
+  pub small : (n : ℕ) → n < N → key n < bound
+
+-- candidate 256 * b + i has the key of its block and its lane
+pub record Grid (key : ℕ → ℕ) (N : ℕ) (low : List ℕ) (lanes : ℕ) (high : List ℕ) (blocks : ℕ) : Type 0 where
+  pub shape : ((blocks ≡ 1) × (N ≡ lanes)) ⊎ ((lanes ≡ 256) × (N ≡ 256 * blocks))
+  pub few : (0 < lanes) × ((lanes ≤ 256) × (blocks ≤ 256))
+  pub keyed : (b i : ℕ) → b < blocks → i < lanes → key (256 * b + i) ≡ 256 * getD high b 0 + widened (getD low i 0)
+  pub low-small : (i : ℕ) → i < lanes → getD low i 0 < 16777216
+  pub low-beyond : (i : ℕ) → lanes ≤ i → i < 256 → getD low i 0 ≡ never
+  pub high-small : (b : ℕ) → b < blocks → getD high b 0 < 16777216
+  pub high-number : (b : ℕ) → b < blocks → getD high b 0 % 256 ≡ b
+
+-- the best key that passes, but for those that stand past the limit; or none, and then it is the bound or more
+pub record Settled (key : ℕ → ℕ) (test : ℕ → Bool) (N bound limit best : ℕ) : Type 0 where
+  pub each : (m : ℕ) → m < N → test m ≡ true → (best ≤ key m) ⊎ (limit < sum (λ k. below (key k) (key m)) N)
+  pub one : (bound ≤ best) ⊎ ((n : ℕ) × (n < N) × (test n ≡ true) × (key n ≡ best))
