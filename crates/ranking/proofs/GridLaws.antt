@@ -9,8 +9,8 @@ use native.Mathlib.Omega.{arith}
 use Rattle.preference.specs.Order.{Before, costOf, sum}
 use Rattle.preference.proofs.CostLaws.{cost-empty, cost-split}
 use Rattle.preference.proofs.SumLaws.{sum-blocks, sum-next, sum-same, sum-start}
-use Rattle.ranking.specs.Grid.{Grid, Ranked, neverKey}
-use Rattle.ranking.specs.Keys.{Keys, keyOf, never, widened}
+use Rattle.ranking.specs.Grid.{Grid, keyAt}
+use Rattle.ranking.specs.Keys.{widened}
 use Rattle.ranking.specs.Place.{below, keysBelow, keysIn, narrow}
 use Rattle.ranking.proofs.PlaceLaws.{below-cases, below-no, below-yes}
 
@@ -52,7 +52,7 @@ module _ (key : ℕ → ℕ) (N : ℕ) (low : List ℕ) (lanes : ℕ) (high : Li
   split m l = go (g .shape)
     where
       go : ((blocks ≡ 1) × (N ≡ lanes)) ⊎ ((lanes ≡ 256) × (N ≡ 256 * blocks)) → (m / 256 < blocks) × (m % 256 < lanes)
-      go (inl (e, d)) = let f = g .few in (omega arith, omega arith)
+      go (inl (e, d)) = let most = g .tables .lanes-most in (omega arith, omega arith)
       go (inr (e, d)) = (omega arith, omega arith)
 
   pub inside : (b i : ℕ) → b < blocks → i < lanes → 256 * b + i < N
@@ -62,5 +62,5 @@ module _ (key : ℕ → ℕ) (N : ℕ) (low : List ℕ) (lanes : ℕ) (high : Li
       go (inl (e, d)) = omega arith
       go (inr (e, d)) = omega arith
 
-  pub key-at : (m : ℕ) → m < N → key m ≡ 256 * getD high (m / 256) 0 + widened (getD low (m % 256) 0)
+  pub key-at : (m : ℕ) → m < N → key m ≡ keyAt low high (m / 256) (m % 256)
   key-at m l = let s = split m l in ap key (omega arith) ∙ g .keyed (m / 256) (m % 256) (s .0) (s .1)

@@ -105,13 +105,17 @@ module _ (ws : List ℕ) (count inner : ℕ) (low high : List ℕ) (c : count �
 
   pub grid : Grid key (2 ^ count) low (2 ^ inner) high (2 ^ (count - inner))
   grid = record {
+    tables = record {
+      some = pow-pos inner;
+      lanes-most = lanes-most;
+      blocks-most = blocks-most;
+      low-small = L .small;
+      low-beyond = L .beyond;
+      high-small = H .small;
+      high-number = λ b l. omega (arith, H .each b l, blocks-most);
+    };
     shape = shape;
-    few = (pow-pos inner, (lanes-most, blocks-most));
     keyed = keyed;
-    low-small = L .small;
-    low-beyond = L .beyond;
-    high-small = H .small;
-    high-number = λ b l. omega (arith, H .each b l, blocks-most);
   }
 
   pub ranked : Ranked (costOf ws) key (2 ^ count) neverKey

@@ -1,11 +1,6 @@
--- The laws of preference, of subsets one after another and of the search, and the theorems.
-pub mod PreferLaws
-pub mod SubsetLaws
-pub mod NextLaws
-pub mod SplitLaws
-pub mod CarryLaws
-pub mod LowestLaws
-pub mod SizedLaws
-pub mod StepLaws
-pub mod SearchLaws
+-- The laws of the search: candidates one by one, and by blocks.
+pub mod SwitchLaws
+pub mod SingleLaws
+pub mod BlockLaws
+pub mod AnswerLaws
 pub mod TheoremsProof

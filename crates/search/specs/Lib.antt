@@ -1,6 +1,5 @@
--- The order of preference and the preferred question, in the order of reading.
-pub mod Preference
-pub mod Question
-pub mod Search
+-- What the search answers, and the steps to it, in the order of reading.
 pub mod Types
+pub mod Singles
+pub mod Blocks
 pub mod Theorems

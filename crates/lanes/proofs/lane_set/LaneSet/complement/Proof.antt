@@ -1,0 +1,11 @@
+-- `lanes::lane_set::LaneSet::complement` meets its contract: word by word. Assumes nothing.
+use native.Mathlib.Omega.{arith}
+use Rattle.lanes.proofs.LaneSetLaws.{complement-is}
+use Rattle.lanes.proofs.lane_set.LaneSet.complement.Statement.{statement}
+use Rattle.lanes.proofs.lane_set.LaneSet.complement.Tie as tie
+
+returns : tie.Need-returns
+returns c = complement-is _ (omega arith) (omega arith) (omega arith) (omega arith)
+
+pub complement-spec : {M : Type 1} → statement M
+complement-spec = tie.close (tie.spec returns)

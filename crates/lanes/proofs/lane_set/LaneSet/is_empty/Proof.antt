@@ -1,0 +1,10 @@
+-- `lanes::lane_set::LaneSet::is_empty` meets its contract: word by word. Assumes nothing.
+use Rattle.lanes.proofs.LaneSetLaws.{empty-is}
+use Rattle.lanes.proofs.lane_set.LaneSet.is_empty.Statement.{statement}
+use Rattle.lanes.proofs.lane_set.LaneSet.is_empty.Tie as tie
+
+returns : tie.Need-returns
+returns c = empty-is _
+
+pub is-empty-spec : {M : Type 1} → statement M
+is-empty-spec = tie.close (tie.spec returns)

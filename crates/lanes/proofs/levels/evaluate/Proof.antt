@@ -1,0 +1,72 @@
+-- `lanes::levels::evaluate` meets its contract: the levels that are left make of each set what all make of the first. Assumes nothing.
+use Prim.Native.Nat.{_+_, _-_, _≤_}
+use denote.Ref.{now}
+use lib.ListN.{getD}
+use native.Mathlib.Numerals.{add-one}
+use borrow.Author.Needs.{needs}
+use native.Mathlib.Omega.{arith}
+use Rattle.lanes.specs.Passes.{Covers}
+use Rattle.lanes.proofs.EvaluateLaws.{Evaluating, evaluating-done, evaluating-first, evaluating-next}
+use Rattle.lanes.proofs.levels.evaluate.Statement.{statement}
+use Rattle.lanes.proofs.levels.evaluate.Tie as tie
+
+abbrev Inv-loop : tie.InvT-loop
+Inv-loop table₀ heads positive negated starts possible reached₀ level₀ table reached level = (level ≤ 9) × (Evaluating heads positive negated starts table₀ table level × Covers reached table)
+
+abbrev μ-loop : tie.MeasureT-loop
+μ-loop table₀ heads positive negated starts possible reached₀ level₀ table reached level = 9 - level
+
+loop-holds : tie.Need-loop-holds Inv-loop μ-loop
+loop-holds c = (omega arith, (evaluating-first _ _ _ _ _ (c .pre .0 .1), c .pre .1))
+
+mul-from : tie.Need-mul-from Inv-loop μ-loop
+mul-from c = search needs
+
+element-copy-out-from : tie.Need-element-copy-out-from Inv-loop μ-loop
+element-copy-out-from c = search needs
+
+add-to : tie.Need-add-to Inv-loop μ-loop
+add-to c = search needs
+
+mul-to : tie.Need-mul-to Inv-loop μ-loop
+mul-to c = search needs
+
+element-copy-out-to : tie.Need-element-copy-out-to Inv-loop μ-loop
+element-copy-out-to c = search needs
+
+close-requires : tie.Need-close-requires Inv-loop μ-loop
+close-requires c κs = let p = c .before .before .before .before .before .pre .0 in
+    let l = c .before .before .before .before .loop .level in
+    let starts = now (c .before .before .before .before .before .args .starts) in
+    let places : (getD starts l 0 ≤ getD starts (l + 1) 0) × (getD starts (l + 1) 0 ≤ 128) = rw (add-one l) (p .0 .ordered l (omega arith)) in
+    ((places .0, (places .1, (p .0 .singles, c .before .before .before .before .loop .inv .1 .0 .long))), c .before .before .before .before .loop .inv .1 .1)
+
+add-level : tie.Need-add-level Inv-loop μ-loop
+add-level c = search needs
+
+loop-less : tie.Need-loop-less Inv-loop μ-loop
+loop-less c = omega arith
+
+loop-again : tie.Need-loop-again Inv-loop μ-loop
+loop-again c = (omega arith, (evaluating-next _ _ _ _ _ _ _ (c .before .before .before .before .before .loop .level) _ (omega arith) (c .before .before .before .before .before .loop .inv .1 .0) (c .close .ensures), c .close .ensures .covers))
+
+returns : tie.Need-returns Inv-loop μ-loop
+returns c = evaluating-done _ _ _ _ _ _ (c .before .loop .level) (omega arith) (c .before .loop .inv .1 .0)
+
+pub evaluate-spec : {M : Type 1} → statement M
+evaluate-spec =
+    tie.close
+    (tie.spec
+    Inv-loop
+    μ-loop
+    loop-holds
+    mul-from
+    element-copy-out-from
+    add-to
+    mul-to
+    element-copy-out-to
+    close-requires
+    add-level
+    loop-less
+    loop-again
+    returns)

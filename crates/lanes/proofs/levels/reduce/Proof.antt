@@ -1,0 +1,64 @@
+-- `lanes::levels::reduce` meets its contract: of the rules before place k it is read. Assumes nothing.
+use Prim.Native.Nat.{_-_, _≤_}
+use borrow.Author.Needs.{needs}
+use native.Mathlib.Omega.{arith}
+use Rattle.lanes.proofs.ReduceLaws.{Reducing, reducing-done, reducing-first, reducing-next}
+use Rattle.lanes.proofs.levels.reduce.Statement.{statement}
+use Rattle.lanes.proofs.levels.reduce.Tie as tie
+
+abbrev Inv-loop : tie.InvT-loop
+Inv-loop table₀ negated from to k₀ table k = (from ≤ k) × ((k ≤ to) × Reducing negated from table₀ table k)
+
+abbrev μ-loop : tie.MeasureT-loop
+μ-loop table₀ negated from to k₀ table k = to - k
+
+loop-holds : tie.Need-loop-holds Inv-loop μ-loop
+loop-holds c = (omega arith, (omega arith, reducing-first _ _ _ (c .pre .1 .1)))
+
+mul-none : tie.Need-mul-none Inv-loop μ-loop
+mul-none c = omega arith
+
+element-copy-out-none : tie.Need-element-copy-out-none Inv-loop μ-loop
+element-copy-out-none c = omega arith
+
+having-any-requires : tie.Need-having-any-requires Inv-loop μ-loop
+having-any-requires c κs = search needs
+
+add-store : tie.Need-add-store Inv-loop μ-loop
+add-store c = omega arith
+
+complement-requires : tie.Need-complement-requires Inv-loop μ-loop
+complement-requires c κs = search needs
+
+store-requires : tie.Need-store-requires Inv-loop μ-loop
+store-requires c κs = (omega arith, c .before .before .before .before .before .before .loop .inv .1 .1 .long)
+
+add-k : tie.Need-add-k Inv-loop μ-loop
+add-k c = omega arith
+
+loop-less : tie.Need-loop-less Inv-loop μ-loop
+loop-less c = omega arith
+
+loop-again : tie.Need-loop-again Inv-loop μ-loop
+loop-again c = (omega arith, (omega arith, reducing-next _ _ _ _ _ _ _ (c .before .before .before .before .before .before .before .loop .k) (c .before .before .before .before .before .before .before .loop .inv .1 .1) (c .before .before .before .having-any .ensures) (c .before .complement .ensures) (c .store .ensures)))
+
+returns : tie.Need-returns Inv-loop μ-loop
+returns c = reducing-done _ _ _ _ (c .before .loop .k) _ (omega arith) (c .before .loop .inv .1 .1)
+
+pub reduce-spec : {M : Type 1} → statement M
+reduce-spec =
+    tie.close
+    (tie.spec
+    Inv-loop
+    μ-loop
+    loop-holds
+    mul-none
+    element-copy-out-none
+    having-any-requires
+    add-store
+    complement-requires
+    store-requires
+    add-k
+    loop-less
+    loop-again
+    returns)

@@ -1,0 +1,27 @@
+// The rules that bear on a request (document 004, "Removing Irrelevant Rules"): the others are left out, and no answer changes.
+ghost use Rattle.evaluation.specs.Arrays.{Placed};
+ghost use Rattle.relevance.specs.Places.{SameAnswer};
+use compaction::kept_rules;
+use evaluation::layout::LevelRules;
+use reach::relevant;
+
+mod compaction;
+mod reach;
+
+// The rules whose heads the request or atom 63 depends on, in the same order and on the same levels.
+pub fn relevant_rules<'a>(
+    heads: &'a [u64; 128],
+    positive: &'a [u64; 128],
+    negated: &'a [u64; 128],
+    starts: &'a [usize; 10],
+    request: u8,
+) -> LevelRules
+    requires { ⌜ Placed (now heads) (now starts) ⌝ }
+    ensures { λ r.
+        ⌜ SameAnswer request (now (heads .entry)) (now (positive .entry)) (now (negated .entry)) (now (starts .entry)) (r .heads) (r .positive) (r .negated)
+        (r .starts) ⌝ }
+{
+    let count = starts[9];
+    let set = relevant(heads, positive, negated, count, request);
+    kept_rules(heads, positive, negated, starts, set)
+}

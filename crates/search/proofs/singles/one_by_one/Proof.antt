@@ -1,0 +1,66 @@
+-- `search::singles::one_by_one` meets its contract. Assumes nothing.
+use mathlib.Core.Path.{_∙_, _≡_}
+use Rattle.search.proofs.AnswerLaws.{numbered, single-found, single-nothing}
+use borrow.Author.Needs.{needs}
+use native.Mathlib.Omega.{arith}
+use Rattle.search.proofs.singles.one_by_one.Statement.{statement}
+use Rattle.search.proofs.singles.one_by_one.Tie as tie
+
+candidates-requires : tie.Need-candidates-requires
+candidates-requires c κs = search needs
+
+keys-requires : tie.Need-keys-requires
+keys-requires c κs = search needs
+
+first-lane-requires : tie.Need-first-lane-requires
+first-lane-requires c κs = let p = c .before .before .before .pre in
+    ((p .0 .0, (p .0 .1, numbered _ _ _ (p .0 .1) (c .before .keys .ensures) _ (c .before .before .candidates .ensures .0))), p .1)
+
+sub-nothing : tie.Need-sub-nothing
+sub-nothing c = search needs
+
+nothing-requires : tie.Need-nothing-requires
+nothing-requires c κs = search needs
+
+returns : tie.Need-returns
+returns c = let p = c .before .before .before .before .before .before .pre in
+    c .nothing .ensures
+    ∙ single-nothing _ _ _ (p .0 .1) (c .before .before .before .before .keys .ensures) _ _ _ _ (c .before .before .before .before .before .candidates .ensures .0)
+    (c .before .before .first-lane .ensures) (c .before .if1 .taken)
+
+keys-below-requires : tie.Need-keys-below-requires
+keys-below-requires c κs =
+    let p = c .before .before .before .before .before .before .pre in
+    numbered _ _ _ (p .0 .1) (c .before .before .before .before .keys .ensures) _ (c .before .before .before .before .before .candidates .ensures .0) .most
+
+cast-found : tie.Need-cast-found
+cast-found c = search needs
+
+cast-found-2 : tie.Need-cast-found-2
+cast-found-2 c = search needs
+
+found-requires : tie.Need-found-requires
+found-requires c κs = search needs
+
+returns-2 : tie.Need-returns-2
+returns-2 c = let p = c .before .before .before .before .before .before .before .before .pre in
+    c .found .ensures
+    ∙ single-found _ _ _ (p .0 .1) (c .before .before .before .before .before .before .keys .ensures) _ _ _ _
+    (c .before .before .before .before .before .before .before .candidates .ensures .0) (c .before .before .before .before .first-lane .ensures) _
+    (omega arith) (c .before .keys-below .ensures .0)
+
+pub one-by-one-spec : {M : Type 1} → statement M
+one-by-one-spec =
+    tie.close
+    (tie.spec
+    candidates-requires
+    keys-requires
+    first-lane-requires
+    sub-nothing
+    nothing-requires
+    returns
+    keys-below-requires
+    cast-found
+    cast-found-2
+    found-requires
+    returns-2)

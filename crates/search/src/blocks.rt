@@ -1,0 +1,201 @@
+// The candidates of many members, 256 at a time. Blocks are taken in order of their own keys, which no key of a candidate in them is below.
+ghost use mathlib.Core.Path.{_≡_};
+ghost use Prim.Native.Nat.{_*_, _+_, _-_, _<_, _^_, _≤_, min};
+ghost use lib.ListN.{getD};
+ghost use Rattle.evaluation.specs.Arrays.{Placed};
+ghost use Rattle.preference.specs.Candidates.{Members};
+ghost use Rattle.preference.specs.InArrays.{opensAt};
+ghost use Rattle.preference.specs.Order.{costOf, searched};
+ghost use Rattle.ranking.specs.Grid.{Tables};
+ghost use Rattle.ranking.specs.Keys.{never, widened};
+ghost use Rattle.ranking.specs.Place.{Bar};
+ghost use Rattle.search.specs.Blocks.{BestOf, Better, LaneKeys, Last, Visited};
+ghost use Rattle.search.specs.Types.{resultOf};
+use crate::answer::Answer;
+use crate::answer::found;
+use crate::answer::nothing;
+use crate::candidate::candidates;
+use lanes::blocks::block;
+use ranking::NEVER;
+use ranking::cheapest::cheapest;
+use ranking::keys::keys;
+use ranking::next::next_key;
+use ranking::place::bar;
+use ranking::place::place;
+
+// Past the key of any candidate.
+const NEVER_KEY: u64 = 274877906944;
+
+fn lesser(a: usize, b: usize) -> usize
+    ensures { λ r. ⌜ r ≡ min a b ⌝ }
+{
+    if a < b { a } else { b }
+}
+
+// The first that unlocks the request, and its place.
+pub(crate) fn by_blocks<'a>(
+    heads: &'a [u64; 128],
+    positive: &'a [u64; 128],
+    negated: &'a [u64; 128],
+    starts: &'a [usize; 10],
+    request: u8,
+    shown: u16,
+    members: &'a [u16; 16],
+    count: usize,
+    weights: &'a [u8; 16],
+    limit: usize,
+) -> Answer
+    requires { ⌜ Placed (now heads) (now starts) × ((request ≤ 63) × Members (now members) count) ⌝ }
+    ensures { λ r.
+        ⌜ resultOf r ≡ searched (costOf (now (weights .entry)))
+        (opensAt (now (heads .entry)) (now (positive .entry)) (now (negated .entry)) (now (starts .entry)) request shown (now (members .entry)) count)
+        (2 ^ count) limit ⌝ }
+{
+    let inner = lesser(count, 8);
+    let lanes = candidates(inner);
+    let blocks = candidates(count - inner);
+    let low = keys(weights, 0, inner);
+    let high = keys(weights, inner, count - inner);
+    let end = limit_bar(&low, lanes, &high, blocks, limit);
+    let best = best_of(
+        heads,
+        positive,
+        negated,
+        starts,
+        request,
+        shown,
+        members,
+        count,
+        &low,
+        lanes,
+        &high,
+        blocks,
+        end,
+    );
+    if NEVER_KEY <= best {
+        return nothing(candidates(count) - 1, limit);
+    }
+    let before = place(&low, lanes, &high, blocks, best);
+    found((best % 65536) as usize, before, limit)
+}
+
+// Blocks from this key on stand past the limit.
+fn limit_bar<'a>(
+    low: &'a [u32; 256],
+    lanes: usize,
+    high: &'a [u32; 256],
+    blocks: usize,
+    limit: usize,
+) -> u32
+    requires { ⌜ ((lanes ≤ 256) × ((0 < blocks) × (blocks ≤ 256))) × (getD (now high) (blocks - 1) 0 < never) ⌝ }
+    ensures { λ r. ⌜ Bar (now (low .entry)) lanes (now (high .entry)) blocks limit r ⌝ }
+{
+    if lanes * blocks <= limit {
+        return NEVER;
+    }
+    let last = high[blocks - 1];
+    bar(low, lanes, high, last, blocks, limit)
+}
+
+// The best key of a candidate, until none of the blocks left can hold a better one.
+fn best_of<'a>(
+    heads: &'a [u64; 128],
+    positive: &'a [u64; 128],
+    negated: &'a [u64; 128],
+    starts: &'a [usize; 10],
+    request: u8,
+    shown: u16,
+    members: &'a [u16; 16],
+    count: usize,
+    low: &'a [u32; 256],
+    lanes: usize,
+    high: &'a [u32; 256],
+    blocks: usize,
+    end: u32,
+) -> u64
+    requires { ⌜ (Placed (now heads) (now starts) × ((request ≤ 63) × Members (now members) count))
+        × (Tables (now low) lanes (now high) blocks × (end ≤ never)) ⌝ }
+    ensures { λ r.
+        ⌜ BestOf (opensAt (now (heads .entry)) (now (positive .entry)) (now (negated .entry)) (now (starts .entry)) request shown (now (members .entry)) count)
+        (now (low .entry)) lanes (now (high .entry)) blocks end r ⌝ }
+{
+    let mut best: u64 = NEVER_KEY;
+    let mut from: u32 = 0;
+    loop {
+        let key = next_key(high, blocks, from);
+        if is_last(key, end, best) {
+            return best;
+        }
+        best = visit(
+            heads,
+            positive,
+            negated,
+            starts,
+            request,
+            shown,
+            members,
+            count,
+            low,
+            lanes,
+            key,
+            best,
+        );
+        from = key + 1;
+    }
+}
+
+// The block of this key is past the end, or holds nothing better.
+fn is_last(key: u32, end: u32, best: u64) -> bool
+    ensures { λ r. ⌜ Last key end best r ⌝ }
+{
+    if end <= key {
+        return true;
+    }
+    best < 256 * (key as u64)
+}
+
+// The best key so far, or that of the first lane that passes of the block of this key.
+fn visit<'a>(
+    heads: &'a [u64; 128],
+    positive: &'a [u64; 128],
+    negated: &'a [u64; 128],
+    starts: &'a [usize; 10],
+    request: u8,
+    shown: u16,
+    members: &'a [u16; 16],
+    count: usize,
+    low: &'a [u32; 256],
+    lanes: usize,
+    key: u32,
+    best: u64,
+) -> u64
+    requires { ⌜ (Placed (now heads) (now starts) × ((request ≤ 63) × Members (now members) count)) × LaneKeys (now low) lanes ⌝ }
+    ensures { λ r.
+        ⌜ Visited (opensAt (now (heads .entry)) (now (positive .entry)) (now (negated .entry)) (now (starts .entry)) request shown (now (members .entry)) count)
+        (now (low .entry)) lanes key best r ⌝ }
+{
+    let b = (key % 256) as usize;
+    let words = block(
+        heads,
+        positive,
+        negated,
+        starts,
+        request,
+        shown,
+        members,
+        count,
+        b,
+    );
+    let lane = cheapest(low, &words);
+    better(best, key, lane)
+}
+
+// The key of a candidate by its block and its lane, where it is better.
+fn better(best: u64, key: u32, lane: u32) -> u64
+    ensures { λ r. ⌜ Better best (256 * key + widened lane) r ⌝ }
+{
+    let number = (lane % 256) as u64;
+    let cost = (lane / 256) as u64;
+    let candidate = 256 * (key as u64) + 65536 * cost + number;
+    if candidate < best { candidate } else { best }
+}
