@@ -20,10 +20,13 @@ is-in s i e = true-eqb e
 pub is-out : (s i : ℕ) → bit s i ≡ 0 → member i s ≡ false
 is-out s i e = ap (λ (x : ℕ). eqb x 1) e
 
-pub tested : (s i : ℕ) → ((member i s ≡ true) × (bit s i ≡ 1)) ⊎ ((member i s ≡ false) × (bit s i ≡ 0))
+abbrev pub InOrOut : ℕ → ℕ → Type 0
+InOrOut s i = ((member i s ≡ true) × (bit s i ≡ 1)) ⊎ ((member i s ≡ false) × (bit s i ≡ 0))
+
+pub tested : (s i : ℕ) → InOrOut s i
 tested s i = go (in-or-out s i)
   where
-    go : Member i s ⊎ (bit s i ≡ 0) → ((member i s ≡ true) × (bit s i ≡ 1)) ⊎ ((member i s ≡ false) × (bit s i ≡ 0))
+    go : Member i s ⊎ (bit s i ≡ 0) → InOrOut s i
     go (inl m) = inl (is-in s i m, m)
     go (inr z) = inr (is-out s i z, z)
 
@@ -56,8 +59,8 @@ or-right x y e = omega (arith, or-add-and x y, and-le-l x y)
 pub member-and : (a b i : ℕ) → member i (bitAnd a b) ≡ (member i a && member i b)
 member-and a b i = go (tested a i) (tested b i)
   where
-    go : ((member i a ≡ true) × (bit a i ≡ 1)) ⊎ ((member i a ≡ false) × (bit a i ≡ 0))
-        → ((member i b ≡ true) × (bit b i ≡ 1)) ⊎ ((member i b ≡ false) × (bit b i ≡ 0)) → member i (bitAnd a b) ≡ (member i a && member i b)
+    go : InOrOut a i
+        → InOrOut b i → member i (bitAnd a b) ≡ (member i a && member i b)
     go (inl (e, x)) (inl (f, y)) = rw (e, f) (is-in (bitAnd a b) i (omega (arith, bit-intersection a b i)))
     go (inl (e, x)) (inr (f, y)) = rw (e, f) (is-out (bitAnd a b) i (omega (arith, bit-intersection a b i)))
     go (inr (e, x)) _ = rw e (is-out (bitAnd a b) i (omega (arith, bit-intersection a b i)))
@@ -65,8 +68,8 @@ member-and a b i = go (tested a i) (tested b i)
 pub member-or : (a b i : ℕ) → not (member i (bitOr a b)) ≡ (not (member i a) && not (member i b))
 member-or a b i = go (tested a i) (tested b i)
   where
-    go : ((member i a ≡ true) × (bit a i ≡ 1)) ⊎ ((member i a ≡ false) × (bit a i ≡ 0))
-        → ((member i b ≡ true) × (bit b i ≡ 1)) ⊎ ((member i b ≡ false) × (bit b i ≡ 0)) → not (member i (bitOr a b)) ≡ (not (member i a) && not (member i b))
+    go : InOrOut a i
+        → InOrOut b i → not (member i (bitOr a b)) ≡ (not (member i a) && not (member i b))
     go (inl (e, x)) _ = rw e (ap not (is-in (bitOr a b) i (omega (arith, bit-union a b i, bit-lt b i))))
     go (inr (e, x)) (inl (f, y)) = rw (e, f) (ap not (is-in (bitOr a b) i (omega (arith, bit-union a b i))))
     go (inr (e, x)) (inr (f, y)) = rw (e, f) (ap not (is-out (bitOr a b) i (omega (arith, bit-union a b i))))
@@ -74,6 +77,6 @@ member-or a b i = go (tested a i) (tested b i)
 pub member-others : (x i : ℕ) → x < 2 ^ 64 → i < 64 → member i (0xffffffffffffffff - x) ≡ not (member i x)
 member-others x i l h = go (tested x i)
   where
-    go : ((member i x ≡ true) × (bit x i ≡ 1)) ⊎ ((member i x ≡ false) × (bit x i ≡ 0)) → member i (0xffffffffffffffff - x) ≡ not (member i x)
+    go : InOrOut x i → member i (0xffffffffffffffff - x) ≡ not (member i x)
     go (inl (e, y)) = rw e (is-out (0xffffffffffffffff - x) i (omega (arith, bit-others x i l h)))
     go (inr (e, y)) = rw e (is-in (0xffffffffffffffff - x) i (omega (arith, bit-others x i l h)))

@@ -50,7 +50,7 @@ pub unlocking : (heads positive negated starts : List ℕ) (request base : ℕ) 
     (wanted breached rest r : LaneSet) → request ≤ 63 → Uniform base filled → Switched members count b filled candidates
     → Evaluated heads positive negated starts candidates table → Loaded table request wanted → Loaded table 63 breached
     → Complement breached rest → Both wanted rest r → Unlocking heads positive negated starts request base members count b (words r)
-unlocking heads positive negated starts request base members count b filled candidates table wanted breached rest r small uniform switch evaluate want breach complement both =
+unlocking heads positive negated starts request base members count b filled candidates table wanted breached rest r small fill switch evaluate want breach complement both =
     record { each = each }
   where
     each : (i : ℕ) → i < 256
@@ -66,4 +66,4 @@ unlocking heads positive negated starts request base members count b filled cand
         ∙ ap (grants request)
         (evaluate .each t k a c
         ∙ ap (evaluated heads positive negated starts)
-        (switch .each base t k a c (uniform t k a c) ∙ ap (switched base members count) n))
+        (switch .each base t k a c (fill t k a c) ∙ ap (switched base members count) n))

@@ -25,7 +25,8 @@ module _ (heads positive negated : List ℕ) (from n : ℕ) where
     pub says : EachLane (λ t i. Says negated table from n t i (lane first t i))
     pub each : EachLane (λ t i. reached (lane first t i) rules (lane table t i) ≡ reached (lane first t i) rules (lane first t i))
 
-  pub closing-next : (first table after : List ℕ) (progress : Progress) → Closing first table → Passed heads positive from n table after progress → Closing first after
+  pub closing-next : (first table after : List ℕ) (progress : Progress) → Closing first table
+      → Passed heads positive from n table after progress → Closing first after
   closing-next first table after progress c p = record {
     long = p .long;
     says = λ t i l m k a b. ap (λ (x : ℕ). member i x) (p .kept t k l) ∙ c .says t i l m k a b;
@@ -34,7 +35,8 @@ module _ (heads positive negated : List ℕ) (from n : ℕ) where
   }
 
   -- the last pass is idle
-  pub closing-idle : (first table after : List ℕ) (progress : Progress) → Closing first table → Passed heads positive from n table after progress → progress .added ≡ 0
+  pub closing-idle : (first table after : List ℕ) (progress : Progress) → Closing first table
+      → Passed heads positive from n table after progress → progress .added ≡ 0
       → EachLane (λ t i. lane after t i ≡ settle rules (lane first t i))
   closing-idle first table after progress c p e t i l m =
       let same = p .idle e t i l m in
@@ -42,7 +44,8 @@ module _ (heads positive negated : List ℕ) (from n : ℕ) where
       ∙ pass-idle (lane first t i) rules (lane table t i) (lane after t i) (p .each negated (lane first t i) t i l m (c .says t i l m)) (c .each t i l m) same
 
 -- the rules of a pass are those up to `to`
-pub stale-to : (heads positive : List ℕ) (from to delta initial : ℕ) (table : List ℕ) → from ≤ to → Stale heads positive from (from + (to - from)) delta initial table
+pub stale-to : (heads positive : List ℕ) (from to delta initial : ℕ) (table : List ℕ) → from ≤ to
+    → Stale heads positive from (from + (to - from)) delta initial table
     → Stale heads positive from to delta initial table
 stale-to heads positive from to delta initial table low s = record { each = λ k a b. s .each k a (omega arith) }
 

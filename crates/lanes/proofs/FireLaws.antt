@@ -1,6 +1,6 @@
 -- One rule for all lanes at once is the rule for each. Assumes nothing.
 use mathlib.Core.Path.{_∙_, _≡_, ap, refl, subst, sym}
-use mathlib.Core.Logic.{_≢_, _⊎_, inl, inr}
+use mathlib.Core.Logic.{_≢_, inl, inr}
 use mathlib.Core.Bool.{_&&_, Bool, cond, false, not, true, true≢false}
 use mathlib.Core.List.{List}
 use Prim.Native.Nat.{_+_, _-_, _<_, max, ℕ}
@@ -10,17 +10,17 @@ use native.Mathlib.Omega.{arith}
 use Rattle.atoms.specs.Sets.{Member, bit, member, subset, union}
 use Rattle.atoms.proofs.SetLaws.{bit-empty, bit-intersection, bit-lt, bit-one, bit-union, inhabited, intersection-iff, member-low}
 use Rattle.evaluation.specs.Arrays.{OneAtom}
-use Rattle.lanes.specs.Firing.{Fired, HavingAll}
+use Rattle.lanes.specs.Firing.{Fired, FiredIn, HavingAll}
 use Rattle.lanes.specs.LaneSets.{Both, Complement, Either, Empty, word}
-use Rattle.lanes.specs.Tables.{Added, Loaded, Stored, cell, lane}
+use Rattle.lanes.specs.Tables.{Added, Loaded, Same, Stored, cell, lane}
 use Rattle.lanes.specs.declared.lane_set.LaneSet.{LaneSet}
-use Rattle.lanes.proofs.BitLaws.{bit-other, bit-others, tested}
+use Rattle.lanes.proofs.BitLaws.{InOrOut, bit-other, bit-others, tested}
 use Rattle.lanes.proofs.LaneLaws.{lane-bit, stored-lane}
 use Rattle.lanes.proofs.LowestLaws.{one-fits, one-trailing}
 
-module _ (k head positive : ℕ) (before after : List ℕ) (free body old joined rest new : LaneSet) (none : Bool)
+module _ (k head positive : ℕ) (before after : List ℕ) (reduct body old joined rest new : LaneSet) (none : Bool)
     (one : OneAtom head)
-    (frees : Loaded before (64 + k) free) (holds : HavingAll before positive free body) (olds : Loaded before (trailingZeros 64 head) old)
+    (reducts : Loaded before (64 + k) reduct) (holds : HavingAll before positive reduct body) (olds : Loaded before (trailingZeros 64 head) old)
     (joins : Either old body joined) (stores : Stored (trailingZeros 64 head) joined before after)
     (rests : Complement old rest) (meets : Both body rest new) (nothing : Empty new none) where
   at : ℕ
@@ -45,11 +45,12 @@ module _ (k head positive : ℕ) (before after : List ℕ) (free body old joined
   joined-bit : (t i : ℕ) → bit (word joined t) i ≡ max (bit (word old t) i) (bit (word body t) i)
   joined-bit t i = ap (λ (x : ℕ). bit x i) (joins .each t) ∙ bit-union (word old t) (word body t) i
 
-  becomes : (t i S : ℕ) → t < 4 → bit (word joined t) i ≡ bit S at → ((j : ℕ) → j ≢ at → bit (lane before t i) j ≡ bit S j) → lane after t i ≡ S
+  becomes : (t i S : ℕ) → t < 4 → bit (word joined t) i ≡ bit S at
+      → ((j : ℕ) → j ≢ at → bit (lane before t i) j ≡ bit S j) → lane after t i ≡ S
   unfolding at
   becomes t i S l f g = stored-lane (trailingZeros 64 head) joined before after stores t i S l f g (one-fits head one)
 
-  idle : none ≡ true → (t i : ℕ) → t < 4 → i < 64 → lane after t i ≡ lane before t i
+  idle : none ≡ true → Same before after
   idle e t i l n = becomes t i (lane before t i) l (same ∙ old-bit t i l) (λ j ne. refl)
     where
       no-new : bit (bitAnd (word body t) (0xffffffffffffffff - word old t)) i ≡ 0
@@ -69,17 +70,16 @@ module _ (k head positive : ℕ) (before after : List ℕ) (free body old joined
             bit-lt (word body t) i,
           )
 
-  each : (t i : ℕ) → t < 4 → i < 64
-      → lane after t i ≡ cond (member i (cell before t (64 + k)) && subset positive (lane before t i)) (union (lane before t i) head) (lane before t i)
+  each : FiredIn k head positive before after
   each t i l n = go (tested (word body t) i)
     where
       S : ℕ
       S = lane before t i
 
       test : (member i (cell before t (64 + k)) && subset positive S) ≡ member i (word body t)
-      test = sym (holds .each t i l n ∙ ap (λ (x : ℕ). member i x && subset positive (lane before t i)) (frees .each t l))
+      test = sym (holds .each t i l n ∙ ap (λ (x : ℕ). member i x && subset positive (lane before t i)) (reducts .each t l))
 
-      go : ((member i (word body t) ≡ true) × (bit (word body t) i ≡ 1)) ⊎ ((member i (word body t) ≡ false) × (bit (word body t) i ≡ 0))
+      go : InOrOut (word body t) i
           → lane after t i ≡ cond (member i (cell before t (64 + k)) && subset positive S) (union S head) S
       go (inl (e, b)) =
           becomes t i (union S head) l (omega (arith, joined-bit t i, bit-union S head at, head-bit, bit-lt (word old t) i, bit-lt S at))

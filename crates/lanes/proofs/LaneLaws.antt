@@ -1,6 +1,6 @@
 -- The set of a lane. Assumes nothing.
 use mathlib.Core.Path.{_∙_, _≡_, ap, subst, sym}
-use mathlib.Core.Logic.{_≢_, _⊎_, inl, inr}
+use mathlib.Core.Logic.{_≢_, inl, inr}
 use mathlib.Core.Bool.{Bool, cond, false, true}
 use mathlib.Core.List.{List}
 use Prim.Native.Nat.{_<_, _^_, _≤_, suc, zero, ℕ}
@@ -13,7 +13,7 @@ use Rattle.atoms.proofs.SetLaws.{bit-empty, bit-lt, bit-one, bit-union, ext}
 use Rattle.lanes.specs.LaneSets.{word}
 use Rattle.lanes.specs.Tables.{Same, Stored, cell, gather, lane}
 use Rattle.lanes.specs.declared.lane_set.LaneSet.{LaneSet}
-use Rattle.lanes.proofs.BitLaws.{bit-other, tested}
+use Rattle.lanes.proofs.BitLaws.{InOrOut, bit-other, tested}
 
 gather-high : (n : ℕ) (f : ℕ → ℕ) (i k : ℕ) → n ≤ k → bit (gather n f i) k ≡ 0
 unfolding gather
@@ -32,7 +32,7 @@ gather-bit (suc n) f i k l = go (tested (f n) i) (ℕ-discrete k n) (λ (m : k <
     G : ℕ
     G = gather n f i
 
-    go : ((member i (f n) ≡ true) × (bit (f n) i ≡ 1)) ⊎ ((member i (f n) ≡ false) × (bit (f n) i ≡ 0)) → Dec (k ≡ n)
+    go : InOrOut (f n) i → Dec (k ≡ n)
         → (k < n → bit G k ≡ bit (f k) i) → bit (cond (member i (f n)) (union G (2 ^ n)) G) k ≡ bit (f k) i
     go (inl (e, b)) (yes q) ih = rw (e, q) (omega (arith, bit-union G (2 ^ n) n, bit-one n, gather-high n f i n (omega arith)))
     go (inl (e, b)) (no q) ih = rw e (omega (arith, bit-union G (2 ^ n) k, bit-other n k q, ih (omega arith), bit-lt G k))
@@ -69,7 +69,8 @@ module _ (w : List ℕ) (t i : ℕ) where
 -- a row is written
 module _ (k : ℕ) (q : LaneSet) (before after : List ℕ) (s : Stored k q before after) where
   -- an atom's: the set has the atom where the row says so
-  pub stored-lane : (t i S : ℕ) → t < 4 → bit (word q t) i ≡ bit S k → ((j : ℕ) → j ≢ k → bit (lane before t i) j ≡ bit S j) → k < 64 → lane after t i ≡ S
+  pub stored-lane : (t i S : ℕ) → t < 4 → bit (word q t) i ≡ bit S k
+      → ((j : ℕ) → j ≢ k → bit (lane before t i) j ≡ bit S j) → k < 64 → lane after t i ≡ S
   stored-lane t i S l here there m = lane-is after t i S (λ j n. go j n (ℕ-discrete j k)) (λ j n. sym (there j (λ e. omega arith)) ∙ lane-high before t i j n)
     where
       go : (j : ℕ) → j < 64 → Dec (j ≡ k) → bit (cell after t j) i ≡ bit S j

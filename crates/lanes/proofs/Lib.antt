@@ -7,8 +7,9 @@ pub mod LaneLaws
 pub mod BodyLaws
 pub mod FireLaws
 pub mod StepLaws
-pub mod PassLaws
+pub mod SatisfiedLaws
 pub mod ReduceLaws
+pub mod PassLaws
 pub mod MissingLaws
 pub mod CloseLaws
 pub mod EvaluateLaws

@@ -1,6 +1,6 @@
 -- One pass for all lanes at once is a pass for each. Assumes nothing.
 use mathlib.Core.Path.{_∙_, _≡_, ap, refl, subst, sym}
-use mathlib.Core.Logic.{_≢_, _⊎_, inl, inr}
+use mathlib.Core.Logic.{_≢_, inl, inr}
 use mathlib.Core.Bool.{_&&_, Bool, cond}
 use mathlib.Core.List.{List}
 use Prim.Native.Nat.{_+_, _-_, _<_, _≤_, ℕ}
@@ -15,13 +15,11 @@ use Rattle.evaluation.specs.Arrays.{OneAtom, rulesIn}
 use Rattle.evaluation.proofs.ArrayLaws.{pass-done-at, pass-next-at}
 use Rattle.evaluation.proofs.HeadLaws.{one-some}
 use Rattle.lanes.specs.LaneSets.{EachLane}
-use Rattle.lanes.specs.Passes.{Covers, Passed, Satisfied, Says, Stale, Stepped}
+use Rattle.lanes.specs.Passes.{Covers, Moved, Passed, Satisfied, Says, Stale, Stepped}
 use Rattle.lanes.specs.Tables.{Added, Grows, Kept, Same, cell, lane}
 use Rattle.lanes.specs.declared.passes.Progress.{Progress}
-use Rattle.lanes.proofs.StepLaws.{apart-less, satisfied-own, satisfied-still, step-grows}
-
-below : (j k : ℕ) → j < k + 1 → j ≢ k → j < k
-below j k b ne = omega arith
+use Rattle.lanes.proofs.ReduceLaws.{below}
+use Rattle.lanes.proofs.SatisfiedLaws.{apart-less, satisfied-own, satisfied-still, step-grows}
 
 -- the rules from place k on are left
 module _ (heads positive : List ℕ) (from to delta initial : ℕ) where
@@ -63,7 +61,9 @@ module _ (heads positive : List ℕ) (from to delta initial : ℕ) where
     kept = λ t j l. f .kept t j l ∙ p .kept t j l;
     covers = f .covers;
     done = λ j a b e. done j a b e (ℕ-discrete j k);
-    left = λ j a b z e. still j (bitOr delta (r .added)) (union-right delta (r .added)) e (p .left j (omega arith) b z (apart-less (getD positive j 0) _ (bitOr delta (r .added)) wider e));
+    left = λ j a b z e.
+        still j (bitOr delta (r .added)) (union-right delta (r .added)) e
+        (p .left j (omega arith) b z (apart-less (getD positive j 0) _ (bitOr delta (r .added)) wider e));
     grows = λ t i l n j m. bigger t i l n j (p .grows t i l n j m);
     idle = λ e t i l n. same e t i l n ∙ p .idle (none-is-empty (s .added) (λ j m. none-in-empty j (subst (Member j) e (f .grows j m)))) t i l n;
     adds = λ ne. adds ne (f .moved);
@@ -94,7 +94,7 @@ module _ (heads positive : List ℕ) (from to delta initial : ℕ) where
       bigger = step-grows k (getD heads k 0) (getD positive k 0) s r table after f
 
       -- what was added stays, and what is added now was not there before
-      adds : r .added ≢ 0 → (Same table after × (r .added ≡ s .added)) ⊎ (Added table after × Subset (getD heads k 0) (r .added)) → Added before after
+      adds : r .added ≢ 0 → Moved (getD heads k 0) s r table after → Added before after
       adds ne (inl (_, e)) =
           let a = p .adds (λ z. ne (e ∙ z)) in record {
             t = a .t;
@@ -121,7 +121,7 @@ module _ (heads positive : List ℕ) (from to delta initial : ℕ) where
       same : r .added ≡ 0 → Same table after
       same e = go (f .moved)
         where
-          go : (Same table after × (r .added ≡ s .added)) ⊎ (Added table after × Subset (getD heads k 0) (r .added)) → Same table after
+          go : Moved (getD heads k 0) s r table after → Same table after
           go (inl (h, _)) = h
           go (inr (_, h)) =
               let some : getD heads k 0 ≢ 0 = λ z. omega (arith, one-some (getD heads k 0) one) in

@@ -15,7 +15,7 @@ use Rattle.lanes.specs.declared.lane_set.LaneSet.{LaneSet}
 use Rattle.lanes.proofs.BitLaws.{member-others}
 use Rattle.lanes.proofs.LaneLaws.{stored-same}
 
-below : (j k : ℕ) → j < k + 1 → j ≢ k → j < k
+pub below : (j k : ℕ) → j < k + 1 → j ≢ k → j < k
 below j k b ne = omega arith
 
 -- of the rules before place k it is read
@@ -28,9 +28,9 @@ module _ (negated : List ℕ) (from : ℕ) where
   pub reducing-first : (table : List ℕ) → length table ≡ 768 → Reducing table table from
   reducing-first table len = record { long = len; same = λ t i l n. refl; says = λ t i l n j a b. absurd (omega arith) }
 
-  pub reducing-next : (before table after : List ℕ) (out rest : LaneSet) (k : ℕ) → Reducing before table k → HavingAny table (getD negated k 0) out
-      → Complement out rest → Stored (64 + k) rest table after → Reducing before after (k + 1)
-  reducing-next before table after out rest k s struck rests stores = record {
+  pub reducing-next : (before table after : List ℕ) (hit rest : LaneSet) (k : ℕ) → Reducing before table k → HavingAny table (getD negated k 0) hit
+      → Complement hit rest → Stored (64 + k) rest table after → Reducing before after (k + 1)
+  reducing-next before table after hit rest k s hits rests stores = record {
     long = stores .long;
     same = λ t i l n. stored-same (64 + k) rest table after stores (omega arith) t i l n ∙ s .same t i l n;
     says = λ t i l n j a b. go t i l n j a b (ℕ-discrete j k);
@@ -41,7 +41,7 @@ module _ (negated : List ℕ) (from : ℕ) where
       go t i l n j a b (yes e) =
           subst (λ (x : ℕ). member i (cell after t (64 + x)) ≡ disjoint (getD negated x 0) (lane before t i)) (sym e)
           (ap (λ (x : ℕ). member i x) (stores .here t l ∙ rests .each t)
-          ∙ member-others (word out t) i (rests .small t) n ∙ struck .each t i l n ∙ ap (disjoint (getD negated k 0)) (s .same t i l n))
+          ∙ member-others (word hit t) i (rests .small t) n ∙ hits .each t i l n ∙ ap (disjoint (getD negated k 0)) (s .same t i l n))
       go t i l n j a b (no ne) =
           ap (λ (x : ℕ). member i x) (stores .there t (64 + j) l (λ e. ne (omega arith))) ∙ s .says t i l n j a (below j k b ne)
 

@@ -1,7 +1,7 @@
 -- The members are switched, one by one. Assumes nothing.
 use mathlib.Core.Path.{_∙_, _≡_, ap, refl, subst, sym}
-use mathlib.Core.Logic.{_≢_, _⊎_, inl, inr}
-use mathlib.Core.Bool.{cond, false, true}
+use mathlib.Core.Logic.{_≢_, inl, inr}
+use mathlib.Core.Bool.{cond}
 use mathlib.Core.List.{List}
 use Prim.Native.Nat.{_+_, _-_, _<_, ℕ}
 use lib.Bits.{bitAnd, bitOr, bitXor}
@@ -20,7 +20,7 @@ use Rattle.lanes.specs.LaneSets.{JustOne, word}
 use Rattle.lanes.specs.Passes.{Covers}
 use Rattle.lanes.specs.Tables.{Loaded, Stored, lane}
 use Rattle.lanes.specs.declared.lane_set.LaneSet.{LaneSet}
-use Rattle.lanes.proofs.BitLaws.{bit-other, bit-others, tested}
+use Rattle.lanes.proofs.BitLaws.{InOrOut, bit-other, bit-others, tested}
 use Rattle.lanes.proofs.LaneLaws.{lane-bit, lane-low, stored-lane}
 use Rattle.lanes.proofs.LowestLaws.{one-fits, one-small, one-trailing}
 
@@ -30,7 +30,7 @@ switching-first members b table len = record { long = len; each = λ base t i l 
 
 module _ (members : List ℕ) (j b : ℕ) (before table after : List ℕ) (old takers new : LaneSet)
     (one : OneAtom (getD members j 0)) (s : Switched members j b before table)
-    (olds : Loaded table (trailingZeros 64 (getD members j 0)) old) (which : Takers j b takers) (added : JustOne old takers new)
+    (olds : Loaded table (trailingZeros 64 (getD members j 0)) old) (which : Takers j b takers) (xor : JustOne old takers new)
     (stores : Stored (trailingZeros 64 (getD members j 0)) new table after) where
   set : ℕ
   set = getD members j 0
@@ -48,7 +48,7 @@ module _ (members : List ℕ) (j b : ℕ) (before table after : List ℕ) (old t
   set-other k n = ap (λ (x : ℕ). bit x k) (one-trailing set one) ∙ bit-other at k n
 
   new-bit : (t i : ℕ) → bit (word new t) i ≡ bit (bitXor (word old t) (word takers t)) i
-  new-bit t i = ap (λ (x : ℕ). bit x i) (added .each t)
+  new-bit t i = ap (λ (x : ℕ). bit x i) (xor .each t)
 
   old-bit : (t i : ℕ) → t < 4 → bit (word old t) i ≡ bit (lane table t i) at
   unfolding at
@@ -68,12 +68,13 @@ module _ (members : List ℕ) (j b : ℕ) (before table after : List ℕ) (old t
       S : ℕ
       S = lane table t i
 
-      go : ((member j (number b t i) ≡ true) × (bit (number b t i) j ≡ 1)) ⊎ ((member j (number b t i) ≡ false) × (bit (number b t i) j ≡ 0))
+      go : InOrOut (number b t i) j
           → lane after t i ≡ cond (member j (number b t i)) (bitXor S set) S
       go (inl (e, x)) =
           rw e
           (becomes t i (bitXor S set) l
-          (new-bit t i ∙ bit-xor-in (word old t) (word takers t) i (which .each t i l n ∙ x) ∙ ap (λ (y : ℕ). 1 - y) (old-bit t i l) ∙ sym (bit-xor-in S set at set-at))
+          (new-bit t i ∙ bit-xor-in (word old t) (word takers t) i (which .each t i l n ∙ x)
+          ∙ ap (λ (y : ℕ). 1 - y) (old-bit t i l) ∙ sym (bit-xor-in S set at set-at))
           (λ k ne. sym (bit-xor-out S set k (set-other k ne))))
       go (inr (e, x)) =
           rw e

@@ -10,10 +10,13 @@ use Rattle.lanes.specs.LaneSets.{word}
 use Rattle.lanes.specs.Tables.{Loaded, Stored, cell, offset}
 use Rattle.lanes.specs.declared.lane_set.LaneSet.{LaneSet}
 
-pub loaded-is : (w : List ℕ) (k : ℕ) → Loaded w k (record { a = getD w (4 * k) 0; b = getD w (4 * k + 1) 0; c = getD w (4 * k + 2) 0; d = getD w (4 * k + 3) 0 })
+abbrev row : List ℕ → ℕ → LaneSet
+row w k = record { a = getD w (4 * k) 0; b = getD w (4 * k + 1) 0; c = getD w (4 * k + 2) 0; d = getD w (4 * k + 3) 0 }
+
+pub loaded-is : (w : List ℕ) (k : ℕ) → Loaded w k (row w k)
 loaded-is w k = record { each = each }
   where
-    each : (t : ℕ) → t < 4 → word (record { a = getD w (4 * k) 0; b = getD w (4 * k + 1) 0; c = getD w (4 * k + 2) 0; d = getD w (4 * k + 3) 0 }) t ≡ cell w t k
+    each : (t : ℕ) → t < 4 → word (row w k) t ≡ cell w t k
     each zero l = refl
     each (suc zero) l = refl
     each (suc (suc zero)) l = refl

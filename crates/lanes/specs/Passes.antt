@@ -24,7 +24,12 @@ pub record Satisfied (k head positive : ℕ) (table : List ℕ) : Type 0 where
 
 -- but in the first pass, for which `initial` is not 0, a rule is satisfied if its body has no atom of `delta`
 pub record Stale (heads positive : List ℕ) (from to delta initial : ℕ) (table : List ℕ) : Type 0 where
-  pub each : (k : ℕ) → from ≤ k → k < to → initial ≡ 0 → bitAnd (getD positive k 0) delta ≡ 0 → Satisfied k (getD heads k 0) (getD positive k 0) table
+  pub each : (k : ℕ) → from ≤ k → k < to → initial ≡ 0 → bitAnd (getD positive k 0) delta ≡ 0
+      → Satisfied k (getD heads k 0) (getD positive k 0) table
+
+-- nothing is added, or the head, in some lane
+abbrev pub Moved : ℕ → Progress → Progress → List ℕ → List ℕ → Type 0
+Moved head s r before after = (Same before after × (r .added ≡ s .added)) ⊎ (Added before after × Subset head (r .added))
 
 -- one rule, looked at or passed over
 pub record Stepped (k head positive : ℕ) (s r : Progress) (before after : List ℕ) : Type 0 where
@@ -32,7 +37,7 @@ pub record Stepped (k head positive : ℕ) (s r : Progress) (before after : List
   pub kept : Kept before after
   pub covers : Covers (r .possible) after
   pub grows : Subset (s .added) (r .added)
-  pub moved : (Same before after × (r .added ≡ s .added)) ⊎ (Added before after × Subset head (r .added))
+  pub moved : Moved head s r before after
   pub each : FiredIn k head positive before after
 
 -- the rows of n rules from place `from` on say of lane (t, i) what B says

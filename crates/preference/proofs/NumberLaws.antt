@@ -83,6 +83,16 @@ in-all (suc k) D X l h = go (D % 2) (omega arith) (odd-subset X D h) (in-all k (
         )
     go (suc (suc x)) u o _ = absurd (omega arith)
 
+-- number 0 is the empty set
+pub in-empty : (k D : ℕ) → subsetIn k D 0 ≡ 0
+unfolding subsetIn
+in-empty zero D = refl
+in-empty (suc k) D = go (D % 2) (in-empty k (D / 2))
+  where
+    go : (x : ℕ) → subsetIn k (D / 2) 0 ≡ 0 → pick x (2 * subsetIn k (D / 2) 0) (0 % 2 + 2 * subsetIn k (D / 2) (0 / 2)) ≡ 0
+    go zero e = omega arith
+    go (suc x) e = omega arith
+
 -- ---- weights
 
 pub in-weights : (k : ℕ) (w : ℕ → ℕ) (D n : ℕ) → weightOf (weightsIn k w D) n ≡ totalIn k w (subsetIn k D n)
@@ -111,7 +121,7 @@ unfolding onesIn
 ones-most zero X = omega arith
 ones-most (suc k) X = omega (arith, ones-most k (X / 2))
 
-ones-none : (d : ℕ) → onesIn d 0 ≡ 0
+pub ones-none : (d : ℕ) → onesIn d 0 ≡ 0
 unfolding onesIn
 ones-none zero = refl
 ones-none (suc d) = omega (arith, ones-none d)

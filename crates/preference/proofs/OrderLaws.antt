@@ -213,3 +213,29 @@ module _ (cost : ℕ → ℕ) (test : ℕ → Bool) (N : ℕ) where
   pub larger : 0 < N → (limit limit' : ℕ) → limit ≤ limit' → searched cost test N limit ≢ spent → searched cost test N limit' ≡ searched cost test N limit
   larger p limit limit' l d =
       searched-means limit' p (searched cost test N limit) .1 (larger-means limit limit' (searched cost test N limit) l d (computed limit p))
+
+-- a test with the same results has the same answer
+module _ (cost : ℕ → ℕ) (f g : ℕ → Bool) (N : ℕ) (alike : (n : ℕ) → f n ≡ g n) where
+  same-means : (limit : ℕ) (a : Result) → Searched cost f N limit a → Searched cost g N limit a
+  same-means limit (found n p) (h, e, l) = (
+    record { inside = h .inside; passes = sym (alike n) ∙ h .passes; first = λ m k b. sym (alike m) ∙ h .first m k b },
+    e,
+    l,
+  )
+  same-means limit (nothing t) (h, e, l) = ((λ m k. sym (alike m) ∙ h m k), e, l)
+  same-means limit spent (h, l) = ((λ m k i. sym (alike m) ∙ h m k i), l)
+
+  pub searched-same : 0 < N → (limit : ℕ) → searched cost f N limit ≡ searched cost g N limit
+  searched-same p limit =
+      sym (searched-means cost g N limit p (searched cost f N limit) .1 (same-means limit (searched cost f N limit) (searched-means cost f N limit p (searched cost f N limit) .0 refl)))
+
+-- where no place is past the limit, it says nothing
+pub no-limit : (cost : ℕ → ℕ) (test : ℕ → Bool) (N limit : ℕ) → N ≤ limit + 1 → searched cost test N limit ≡ unlimited cost test N (firstOf cost test N)
+unfolding searched
+no-limit cost test N limit l = go (firstOf cost test N) refl
+  where
+    go : (o : Option ℕ) → firstOf cost test N ≡ o → cond (ltb limit (trials (unlimited cost test N o))) spent (unlimited cost test N o) ≡ unlimited cost test N o
+    go none e = let k : N - 1 ≤ limit = omega arith in simp (le-ltb _ _ k)
+    go (some n) e =
+        let k : place cost N n ≤ limit = omega (arith, place-most cost N n (first-some cost test N n e .inside)) in
+        simp (le-ltb _ _ k)

@@ -31,7 +31,11 @@ intersection-requires : tie.Need-intersection-requires
 intersection-requires c κs = search needs
 
 returns : tie.Need-returns
-returns c = unlocking _ _ _ _ _ _ _ _ _ _ _ _ _ _ _ _ (c .before .before .before .before .before .before .before .before .before .before .before .before .pre .1 .0) (c .before .before .before .before .before .before .before .before .before .before .fill .ensures .1) (c .before .before .before .before .before .before .before .before .switch .ensures .0) (c .before .before .before .before .before .before .evaluate .ensures)
+returns c =
+    let done = c .before .before .before .before .before .before in
+    let tried = done .before .before in
+    let filled = tried .before .before in
+    unlocking _ _ _ _ _ _ _ _ _ _ _ _ _ _ _ _ (filled .before .before .pre .1 .0) (filled .fill .ensures .1) (tried .switch .ensures .0) (done .evaluate .ensures)
     (c .before .before .before .before .load .ensures) (c .before .before .load2 .ensures) (c .before .complement .ensures) (c .intersection .ensures)
 
 pub block-spec : {M : Type 1} → statement M

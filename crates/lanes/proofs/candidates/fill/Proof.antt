@@ -22,7 +22,9 @@ splat-requires : tie.Need-splat-requires Inv-loop μ-loop
 splat-requires c κs = search needs
 
 store-requires : tie.Need-store-requires Inv-loop μ-loop
-store-requires c κs = (omega (arith, lowest-fits _ (c .before .before .loop-test .taken) (c .before .before .before .loop .inv .small)), c .before .before .before .loop .inv .long)
+store-requires c κs =
+    let l = c .before .before .before in
+    (omega (arith, lowest-fits _ (c .before .before .loop-test .taken) (l .loop .inv .small)), l .loop .inv .long)
 
 sub-left : tie.Need-sub-left Inv-loop μ-loop
 sub-left c = search needs
@@ -31,7 +33,9 @@ loop-less : tie.Need-loop-less Inv-loop μ-loop
 loop-less c = rest-less _ (c .before .before .before .loop-test .taken) (c .before .before .before .before .loop .inv .small)
 
 loop-again : tie.Need-loop-again Inv-loop μ-loop
-loop-again c = filling-next _ _ _ _ _ (c .before .before .before .loop-test .taken) (c .before .before .before .before .loop .inv) (c .before .splat .ensures) (c .store .ensures)
+loop-again c =
+    let l = c .before .before .before .before in
+    filling-next _ _ _ _ _ (c .before .before .before .loop-test .taken) (l .loop .inv) (c .before .splat .ensures) (c .store .ensures)
 
 returns : tie.Need-returns Inv-loop μ-loop
 returns c = (c .before .loop .inv .long, filling-done _ _ _ (c .before .loop .inv) (omega arith))

@@ -41,7 +41,9 @@ symmetric-difference-requires : tie.Need-symmetric-difference-requires Inv-loop 
 symmetric-difference-requires c κs = search needs
 
 store-requires : tie.Need-store-requires Inv-loop μ-loop
-store-requires c κs = (omega (arith, one-fits _ (c .before .before .before .before .before .before .before .before .pre .0 .0 .1 (c .before .before .before .before .before .before .before .loop .j) (omega arith))), c .before .before .before .before .before .before .before .loop .inv .1 .0 .long)
+store-requires c κs =
+    let l = c .before .before .before .before .before .before .before in
+    (omega (arith, one-fits _ (l .before .pre .0 .0 .1 (l .loop .j) (omega arith))), l .loop .inv .1 .0 .long)
 
 note-requires : tie.Need-note-requires Inv-loop μ-loop
 note-requires c κs = search needs
@@ -53,18 +55,24 @@ loop-less : tie.Need-loop-less Inv-loop μ-loop
 loop-less c = omega arith
 
 loop-again : tie.Need-loop-again Inv-loop μ-loop
-loop-again c = let s = c .before .before .before .before .before .before .before .before .before .before in
-    let l = c .before .before .before .before .before .before .before .before .before .loop in
-    let one = s .pre .0 .0 .1 (l .j) (omega arith) in (
+loop-again c =
+    let l = c .before .before .before .before .before .before .before .before .before in
+    let one = l .before .pre .0 .0 .1 (l .loop .j) (omega arith) in
+    let old = c .before .before .before .before .before .load .ensures in
+    let which = c .before .before .before .before .takers .ensures in
+    let row = c .before .before .before .symmetric-difference .ensures in
+    let stores = c .before .store .ensures in (
       omega arith,
       (
-        switching-next _ (l .j) _ _ _ _ _ _ _ one (l .inv .1 .0) (c .before .before .before .before .before .load .ensures) (c .before .before .before .before .takers .ensures) (c .before .before .before .symmetric-difference .ensures) (c .before .store .ensures),
-        noted-next _ (l .j) _ _ _ _ _ _ _ one (l .inv .1 .0) (c .before .before .before .before .before .load .ensures) (c .before .before .before .before .takers .ensures) (c .before .before .before .symmetric-difference .ensures) (c .before .store .ensures) _ _ (l .inv .1 .1) (c .note .ensures),
+        switching-next _ (l .loop .j) _ _ _ _ _ _ _ one (l .loop .inv .1 .0) old which row stores,
+        noted-next _ (l .loop .j) _ _ _ _ _ _ _ one (l .loop .inv .1 .0) old which row stores _ _ (l .loop .inv .1 .1) (c .note .ensures),
       ),
     )
 
 returns : tie.Need-returns Inv-loop μ-loop
-returns c = let e : c .before .loop .j ≡ c .before .before .args .count = omega arith in (rw (← e) (c .before .loop .inv .1 .0), c .before .loop .inv .1 .1)
+returns c =
+    let e : c .before .loop .j ≡ c .before .before .args .count = omega arith in
+    (rw (← e) (c .before .loop .inv .1 .0), c .before .loop .inv .1 .1)
 
 pub switch-spec : {M : Type 1} → statement M
 switch-spec =

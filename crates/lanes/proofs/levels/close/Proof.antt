@@ -1,4 +1,5 @@
--- `lanes::levels::close` meets its contract: what passes reach does not change, and is reached with the first that is idle. The measure is the number of atoms that the lanes lack. Assumes nothing.
+-- `lanes::levels::close` meets its contract: what passes reach does not change, and is reached with the first that is idle.
+-- The measure is the number of atoms that the lanes lack. Assumes nothing.
 use Prim.Native.Nat.{_-_}
 use Rattle.lanes.specs.Passes.{Covers, Stale}
 use Rattle.lanes.proofs.CloseLaws.{Closing, closing-first, closing-idle, closing-next, settled, stale-none, stale-to}
@@ -9,7 +10,8 @@ use Rattle.lanes.proofs.levels.close.Tie as tie
 
 abbrev Inv-loop : tie.InvT-loop
 Inv-loop table₀ heads positive negated from to possible progress₀ initial₀ table progress initial =
-    Closing heads positive negated from (to - from) table₀ table × (Covers (progress .possible) table × Stale heads positive from to (progress .added) initial table)
+    Closing heads positive negated from (to - from) table₀ table
+    × (Covers (progress .possible) table × Stale heads positive from to (progress .added) initial table)
 
 abbrev μ-loop : tie.MeasureT-loop
 μ-loop table₀ heads positive negated from to possible progress₀ initial₀ table progress initial = missing table
@@ -31,17 +33,19 @@ pass-requires c κs =
 returns : tie.Need-returns Inv-loop μ-loop
 returns c =
     let e = c .before .before .pass .ensures in
-    settled _ _ _ _ _ _ _ (c .before .before .before .before .before .before .before .pre .0 .0) (c .before .before .before .before .before .reduce .ensures) _ _ (e .long) (e .covers)
-    (closing-idle _ _ _ _ _ _ _ _ _ (c .before .before .before .before .loop .inv .0) e (c .if1 .taken))
+    let l = c .before .before .before .before in
+    settled _ _ _ _ _ _ _ (l .before .before .before .pre .0 .0) (l .before .reduce .ensures) _ _ (e .long) (e .covers)
+    (closing-idle _ _ _ _ _ _ _ _ _ (l .loop .inv .0) e (c .if1 .taken))
 
 loop-less : tie.Need-loop-less Inv-loop μ-loop
 loop-less c = let e = c .before .before .pass .ensures in fewer _ _ (e .grows) (e .adds (c .if1 .left))
 
 loop-again : tie.Need-loop-again Inv-loop μ-loop
 loop-again c =
-    let e = c .before .before .pass .ensures in (
-      closing-next _ _ _ _ _ _ _ _ _ (c .before .before .before .before .loop .inv .0) e,
-      (e .covers, stale-to _ _ _ _ _ _ _ (c .before .before .before .before .before .before .before .pre .0 .0) (e .stale)),
+    let e = c .before .before .pass .ensures in
+    let l = c .before .before .before .before in (
+      closing-next _ _ _ _ _ _ _ _ _ (l .loop .inv .0) e,
+      (e .covers, stale-to _ _ _ _ _ _ _ (l .before .before .before .pre .0 .0) (e .stale)),
     )
 
 pub close-spec : {M : Type 1} → statement M

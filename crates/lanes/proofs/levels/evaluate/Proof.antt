@@ -11,7 +11,8 @@ use Rattle.lanes.proofs.levels.evaluate.Statement.{statement}
 use Rattle.lanes.proofs.levels.evaluate.Tie as tie
 
 abbrev Inv-loop : tie.InvT-loop
-Inv-loop table₀ heads positive negated starts possible reached₀ level₀ table reached level = (level ≤ 9) × (Evaluating heads positive negated starts table₀ table level × Covers reached table)
+Inv-loop table₀ heads positive negated starts possible reached₀ level₀ table reached level =
+    (level ≤ 9) × (Evaluating heads positive negated starts table₀ table level × Covers reached table)
 
 abbrev μ-loop : tie.MeasureT-loop
 μ-loop table₀ heads positive negated starts possible reached₀ level₀ table reached level = 9 - level
@@ -48,7 +49,9 @@ loop-less : tie.Need-loop-less Inv-loop μ-loop
 loop-less c = omega arith
 
 loop-again : tie.Need-loop-again Inv-loop μ-loop
-loop-again c = (omega arith, (evaluating-next _ _ _ _ _ _ _ (c .before .before .before .before .before .loop .level) _ (omega arith) (c .before .before .before .before .before .loop .inv .1 .0) (c .close .ensures), c .close .ensures .covers))
+loop-again c =
+    let l = c .before .before .before .before .before .loop in
+    (omega arith, (evaluating-next _ _ _ _ _ _ _ (l .level) _ (omega arith) (l .inv .1 .0) (c .close .ensures), c .close .ensures .covers))
 
 returns : tie.Need-returns Inv-loop μ-loop
 returns c = evaluating-done _ _ _ _ _ _ (c .before .loop .level) (omega arith) (c .before .loop .inv .1 .0)

@@ -40,7 +40,10 @@ loop-less : tie.Need-loop-less Inv-loop μ-loop
 loop-less c = omega arith
 
 loop-again : tie.Need-loop-again Inv-loop μ-loop
-loop-again c = (omega arith, (omega arith, reducing-next _ _ _ _ _ _ _ (c .before .before .before .before .before .before .before .loop .k) (c .before .before .before .before .before .before .before .loop .inv .1 .1) (c .before .before .before .having-any .ensures) (c .before .complement .ensures) (c .store .ensures)))
+loop-again c =
+    let l = c .before .before .before .before .before .before .before .loop in
+    let hit = c .before .before .before .having-any .ensures in
+    (omega arith, (omega arith, reducing-next _ _ _ _ _ _ _ (l .k) (l .inv .1 .1) hit (c .before .complement .ensures) (c .store .ensures)))
 
 returns : tie.Need-returns Inv-loop μ-loop
 returns c = reducing-done _ _ _ _ (c .before .loop .k) _ (omega arith) (c .before .loop .inv .1 .1)

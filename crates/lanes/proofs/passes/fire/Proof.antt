@@ -16,16 +16,22 @@ having-all-requires : tie.Need-having-all-requires
 having-all-requires c κs = search needs
 
 cast-at : tie.Need-cast-at
-cast-at c = omega (arith, one-fits (c .before .before .before .args .head) (c .before .before .before .pre .1 .0))
+cast-at c =
+    let s = c .before .before .before in
+    omega (arith, one-fits (s .args .head) (s .pre .1 .0))
 
 load-requires-2 : tie.Need-load-requires-2
-load-requires-2 c κs = omega (arith, one-fits (c .before .before .before .before .args .head) (c .before .before .before .before .pre .1 .0))
+load-requires-2 c κs =
+    let s = c .before .before .before .before in
+    omega (arith, one-fits (s .args .head) (s .pre .1 .0))
 
 union-requires : tie.Need-union-requires
 union-requires c κs = search needs
 
 store-requires : tie.Need-store-requires
-store-requires c κs = (omega (arith, one-fits (c .before .before .before .before .before .before .before .args .head) (c .before .before .before .before .before .before .before .pre .1 .0)), c .before .before .before .before .before .before .before .pre .1 .1)
+store-requires c κs =
+    let s = c .before .before .before .before .before .before .before in
+    (omega (arith, one-fits (s .args .head) (s .pre .1 .0)), s .pre .1 .1)
 
 complement-requires : tie.Need-complement-requires
 complement-requires c κs = search needs
@@ -37,8 +43,12 @@ is-empty-requires : tie.Need-is-empty-requires
 is-empty-requires c κs = search needs
 
 returns : tie.Need-returns
-returns c = fired _ _ _ _ _ _ _ _ _ _ _ _ (c .before .before .before .before .before .before .before .before .before .before .before .pre .1 .0) (c .before .before .before .before .before .before .before .before .before .load .ensures) (c .before .before .before .before .before .before .before .before .having-all .ensures) (c .before .before .before .before .before .before .load2 .ensures) (c .before .before .before .before .union .ensures)
-    (c .before .before .before .store .ensures) (c .before .before .complement .ensures) (c .before .intersection .ensures) (c .is-empty .ensures)
+returns c =
+    let old = c .before .before .before .before .before .before in
+    let body = old .before .before in
+    fired _ _ _ _ _ _ _ _ _ _ _ _ (body .before .before .before .pre .1 .0) (body .before .load .ensures) (body .having-all .ensures) (old .load2 .ensures)
+    (c .before .before .before .before .union .ensures) (c .before .before .before .store .ensures) (c .before .before .complement .ensures)
+    (c .before .intersection .ensures) (c .is-empty .ensures)
 
 pub fire-spec : {M : Type 1} → statement M
 fire-spec =

@@ -6,7 +6,8 @@ use Rattle.lanes.proofs.passes.pass.Statement.{statement}
 use Rattle.lanes.proofs.passes.pass.Tie as tie
 
 abbrev Inv-loop : tie.InvT-loop
-Inv-loop table₀ heads positive from to possible delta initial progress₀ k₀ table progress k = (from ≤ k) × ((k ≤ to) × Passing heads positive from to delta initial table₀ table progress k)
+Inv-loop table₀ heads positive from to possible delta initial progress₀ k₀ table progress k =
+    (from ≤ k) × ((k ≤ to) × Passing heads positive from to delta initial table₀ table progress k)
 
 abbrev μ-loop : tie.MeasureT-loop
 μ-loop table₀ heads positive from to possible delta initial progress₀ k₀ table progress k = to - k
@@ -27,7 +28,8 @@ element-copy-out-all : tie.Need-element-copy-out-all Inv-loop μ-loop
 element-copy-out-all c = omega arith
 
 step-requires : tie.Need-step-requires Inv-loop μ-loop
-step-requires c κs = let p = c .before .before .before .before .loop .inv .1 .1 in
+step-requires c κs =
+    let p = c .before .before .before .before .loop .inv .1 .1 in
     let k = c .before .before .before .before .loop .k in
     ((omega arith, (c .before .before .before .before .before .pre .0 .1 .1 .0 k (omega arith), p .long)), (p .covers, p .left k (omega arith) (omega arith)))
 
@@ -38,13 +40,10 @@ loop-less : tie.Need-loop-less Inv-loop μ-loop
 loop-less c = omega arith
 
 loop-again : tie.Need-loop-again Inv-loop μ-loop
-loop-again c = let l = c .before .before .before .before .before .loop in (
-  omega arith,
-  (
-    omega arith,
-    passing-next _ _ _ _ _ _ _ _ _ _ _ (l .k) (omega arith) (omega arith) (c .before .before .before .before .before .before .pre .0 .1 .1 .0 (l .k) (omega arith)) (l .inv .1 .1) (c .step .ensures),
-  ),
-)
+loop-again c =
+    let l = c .before .before .before .before .before .loop in
+    let one = c .before .before .before .before .before .before .pre .0 .1 .1 .0 (l .k) (omega arith) in
+    (omega arith, (omega arith, passing-next _ _ _ _ _ _ _ _ _ _ _ (l .k) (omega arith) (omega arith) one (l .inv .1 .1) (c .step .ensures)))
 
 returns : tie.Need-returns Inv-loop μ-loop
 returns c = passing-done _ _ _ _ _ _ _ _ _ (c .before .loop .k) (omega arith) (c .before .loop .inv .1 .1)
