@@ -11,7 +11,7 @@ use Rattle.atoms.proofs.SetLaws.{bit-empty, bit-union, disjoint-true, ext, none
 use Rattle.atoms.proofs.SizeLaws.{size-credentials}
 use Rattle.evaluation.specs.Arrays.{evaluated}
 use Rattle.evaluation.specs.Unlocking.{grants}
-use Rattle.preference.specs.Candidates.{switched, taken}
+use Rattle.preference.specs.Candidates.{Members, switched, taken}
 use Rattle.preference.specs.InArrays.{opensAt, opensIn}
 use Rattle.preference.specs.Order.{Result, costOf, firstOf, found, nothing, searched, spent, unlimited}
 use Rattle.preference.specs.OrderTheorems.{equalWeights, questionAt, questionOf}
@@ -53,6 +53,9 @@ module _ (h p m s : List ℕ) (r P D : ℕ) (l : D < 2 ^ 16) (apart : disjoint P
   same-test n = ap (λ (x : ℕ). grants r (evaluated h p m s x)) (tries n)
 
   module _ (count : ℕ) (is : count ≡ size D) where
+    pub counted : Members members count
+    counted = subst (Members members) (sym is) (listed .each)
+
     -- the empty candidate asks for nothing
     pub locked : test noQuestion ≡ false → opensAt h p m s r P members count 0 ≡ false
     locked f =

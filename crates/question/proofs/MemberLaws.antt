@@ -183,8 +183,8 @@ module _ (D : ℕ) (members : List ℕ) (left place n : ℕ) (h : Listed D membe
     each = (size-credentials D l, λ j i. one j (omega (arith, all)));
     different = λ i j u v e. absurd (omega (arith, h .listing .rising i j u (omega (arith, all)), e));
     subset = λ m. subst (λ (y : ℕ). taken members y m ≡ subsetOf D m) all
-      (taking-all D m (h .passed) (taken members n m) place (m / 2 ^ n)
-      (subst (λ (y : ℕ). Taking D m (h .passed) (taken members n m) place y (m / 2 ^ n)) z (h .listing .taking m)));
+        (taking-all D m (h .passed) (taken members n m) place (m / 2 ^ n)
+        (subst (λ (y : ℕ). Taking D m (h .passed) (taken members n m) place y (m / 2 ^ n)) z (h .listing .taking m)));
   }
     where
       all : n ≡ size D

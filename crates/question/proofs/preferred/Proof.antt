@@ -1,41 +1,49 @@
+-- `question::preferred` meets its contract. Assumes nothing.
+use mathlib.Core.Path.{_∙_, ap}
+use Rattle.atoms.specs.Sets.{size}
+use Rattle.question.proofs.AskedLaws.{answered, counted, locked}
 use borrow.Author.Needs.{needs}
 use Rattle.question.proofs.preferred.Statement.{statement}
 use Rattle.question.proofs.preferred.Tie as tie
-use Rattle.question.proofs.preferred.Reads as reads
-use Rattle.question.proofs.preferred.Lts as lts
-use Rattle.atoms.proofs.AtomSet.count.Reads as count-reads
-use Rattle.atoms.proofs.AtomSet.credentials.Reads as credentials-reads
-use Rattle.question.proofs.asked.Reads as asked-reads
-use Rattle.question.proofs.members.members_of.Reads as members-of-reads
-use Rattle.search.proofs.first.Reads as first-reads
 
--- src/lib.rt:44:19
 members-of-requires : tie.Need-members-of-requires
 members-of-requires c κs = search needs
 
--- src/lib.rt:45:17
 credentials-requires : tie.Need-credentials-requires
 credentials-requires c κs = search needs
 
--- src/lib.rt:45:17
 count-requires : tie.Need-count-requires
 count-requires c κs = search needs
 
--- src/lib.rt:45:17
 cast-count : tie.Need-cast-count
 cast-count c = search needs
 
--- src/lib.rt:47:9
 first-requires : tie.Need-first-requires
-first-requires c κs = ?
+first-requires c κs =
+    let s = c .before .before .before .before .before in (
+      (
+        s .pre .0 .0,
+        (
+          s .pre .0 .1 .0,
+          counted (s .args .heads .now) (s .args .positive .now) (s .args .negated .now) (s .args .starts .now) (s .args .request) (s .args .shown) (s .args .within)
+              (s .fits .within .fits) (s .pre .0 .1 .1) _ (c .before .before .before .before .members-of .ensures) _ (c .before .before .count .ensures ∙ ap size (c .before .before .before .credentials .ensures)),
+        ),
+      ),
+      locked (s .args .heads .now) (s .args .positive .now) (s .args .negated .now) (s .args .starts .now) (s .args .request) (s .args .shown) (s .args .within)
+          (s .fits .within .fits) (s .pre .0 .1 .1) _ (c .before .before .before .before .members-of .ensures) _ (c .before .before .count .ensures ∙ ap size (c .before .before .before .credentials .ensures)) (s .pre .1),
+    )
 
--- src/lib.rt:59:5
 asked-requires : tie.Need-asked-requires
-asked-requires c κs = ?
+asked-requires c κs =
+    let s = c .before .before .before .before .before .before .before in
+    counted (s .args .heads .now) (s .args .positive .now) (s .args .negated .now) (s .args .starts .now) (s .args .request) (s .args .shown) (s .args .within)
+    (s .fits .within .fits) (s .pre .0 .1 .1) _ (c .before .before .before .before .before .before .members-of .ensures) _ (c .before .before .before .before .count .ensures ∙ ap size (c .before .before .before .before .before .credentials .ensures)) .0
 
--- src/lib.rt:29:1
 returns : tie.Need-returns
-returns c = ?
+returns c =
+    let s = c .before .before .before .before .before .before .before .before in
+    c .asked .ensures ∙ answered (s .args .heads .now) (s .args .positive .now) (s .args .negated .now) (s .args .starts .now) (s .args .request) (s .args .shown) (s .args .within)
+    (s .fits .within .fits) (s .pre .0 .1 .1) _ (c .before .before .before .before .before .before .before .members-of .ensures) _ (c .before .before .before .before .before .count .ensures ∙ ap size (c .before .before .before .before .before .before .credentials .ensures)) (c .before .before .first .result) (c .before .before .first .ensures)
 
 pub preferred-spec : {M : Type 1} → statement M
 preferred-spec =
