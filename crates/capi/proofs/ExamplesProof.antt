@@ -11,8 +11,8 @@ use Rattle.records.specs.Writing.{_if_not_, bytesOf, disclose_if_, setOf, write
 use Rattle.policy.specs.PolicyTest.{accessLevels, firstFailed, forAtoms, policyRefusal, recordRefusal, recordsRefusal}
 use Rattle.evaluation.specs.Unlocking.{unlocks}
 use Rattle.model.specs.Disclosure.{disclosable}
-use Rattle.search.specs.Preference.{lexBefore, preferred, subsets}
-use Rattle.search.specs.Question.{candidates, chosen}
+use Rattle.preference.specs.Preference.{lexBefore, preferred, subsets}
+use Rattle.preference.specs.Question.{candidates, chosen}
 use Rattle.session.specs.Endings.{ending}
 use Rattle.session.specs.Rounds.{opening, round, roundRefusal, sessionRefusal, worked}
 use Rattle.demands.specs.Marked.{policyA}

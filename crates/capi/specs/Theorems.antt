@@ -12,7 +12,7 @@ use Rattle.session.specs.Endings.{ask, deny, grant}
 use Rattle.session.specs.Refusals.{Refusal, number, ofPolicy}
 use Rattle.session.specs.Rounds.{Answer, Move, Turn, ends, refuse, round}
 use Rattle.session.specs.Sessions.{Service, Session, closed, denied, fresh, granted, opened, waiting}
-use Rattle.search.specs.Question.{Question}
+use Rattle.preference.specs.Question.{Question}
 use Rattle.model.specs.Answers as A
 use Rattle.demands.specs.Demand3.{Demand3}
 use Rattle.demands.specs.Promises.{Visit, runVisits}

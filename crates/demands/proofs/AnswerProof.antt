@@ -14,7 +14,7 @@ use Rattle.policy.proofs.PolicyLaws.{disclosure-heads, one-model}
 use Rattle.evaluation.specs.Unlocking.{Unlocks, unlocks}
 use Rattle.evaluation.proofs.AccessLaws.{unlocks-iff}
 use Rattle.model.proofs.DisclosureLaws.{Low, disclosable-iff}
-use Rattle.search.specs.Question.{Question, noQuestion}
+use Rattle.preference.specs.Question.{Question, noQuestion}
 use Rattle.session.specs.Endings.{Ending, Policy, ask, deny, ending, grant, policyOf}
 use Rattle.session.proofs.AnswerLaws.{FirstWay, Says, Way, ask≢deny, ask≢grant, ending-is-ask, ending-says, grant≢deny, way-empty}
 use Rattle.demands.specs.Demand2.{Demand2, DeniedWhen, FirstMissing, Missing}

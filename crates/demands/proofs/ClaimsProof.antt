@@ -7,7 +7,7 @@ use Rattle.records.proofs.TheoremsProof as records
 use Rattle.policy.proofs.TheoremsProof as policy
 use Rattle.evaluation.proofs.TheoremsProof as evaluation
 use Rattle.model.proofs.TheoremsProof as model
-use Rattle.search.proofs.TheoremsProof as search
+use Rattle.preference.proofs.TheoremsProof as search
 use Rattle.session.specs.Sessions.{Session}
 use Rattle.session.proofs.TheoremsProof as session
 use Rattle.demands.specs.Claims.{Claims}

@@ -14,7 +14,7 @@ use Rattle.rules.specs.Rules.{Every}
 use Rattle.evaluation.specs.Unlocking.{unlocks}
 use Rattle.model.specs.Disclosure.{askable, disclosable}
 use Rattle.model.proofs.DisclosureLaws.{Low, disclosable-mono}
-use Rattle.search.specs.Question.{Question}
+use Rattle.preference.specs.Question.{Question}
 use Rattle.session.specs.Endings.{Ending, Policy, ask, deny, grant}
 use Rattle.session.proofs.AnswerLaws.{FirstWay, Says, Way}
 use Rattle.demands.specs.Lists.{Round, declinedBy, lastQuestion, questionIn, reply, shownBy}

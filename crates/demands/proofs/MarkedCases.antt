@@ -26,8 +26,8 @@ use Rattle.evaluation.proofs.AccessLaws.{unlocks-iff}
 use Rattle.model.specs.Answers.{disclosableAnswer, modelAnswer}
 use Rattle.model.specs.Disclosure.{askable, disclosable}
 use Rattle.model.proofs.DisclosureLaws.{disclosable-iff}
-use Rattle.search.specs.Preference.{lexBefore, preferred, subsets}
-use Rattle.search.specs.Question.{Question, candidates, chosen}
+use Rattle.preference.specs.Preference.{lexBefore, preferred, subsets}
+use Rattle.preference.specs.Question.{Question, candidates, chosen}
 use Rattle.session.specs.Endings.{Ending, deny, ending, policyOf}
 use Rattle.session.specs.Rounds.{ends, opening, round, roundRefusal, run, sessionRefusal, worked}
 use Rattle.demands.specs.Demand2.{Missing}

@@ -14,7 +14,7 @@ use Rattle.rules.specs.Rules.{Every}
 use Rattle.evaluation.specs.Unlocking.{unlocks}
 use Rattle.model.specs.Disclosure.{askable}
 use Rattle.model.proofs.DisclosureLaws.{Low}
-use Rattle.search.specs.Question.{Question}
+use Rattle.preference.specs.Question.{Question}
 use Rattle.session.specs.Endings.{Ending, Policy, ask, deny, ending, grant}
 use Rattle.session.proofs.AnswerLaws.{FirstWay, Obtainable, Says, Way, ending-says}
 use Rattle.demands.specs.Lists.{Asks, Final, Over, Round, SomeRound, declinedBy, lastQuestion, questionIn, shownBy}

@@ -12,7 +12,7 @@ use Rattle.rules.specs.Rules.{Every}
 use Rattle.policy.specs.WrittenForm.{WellFormed}
 use Rattle.policy.proofs.PolicyLaws.{disclosure-heads}
 use Rattle.model.proofs.DisclosureLaws.{Low}
-use Rattle.search.specs.Question.{Question}
+use Rattle.preference.specs.Question.{Question}
 use Rattle.session.specs.Endings.{Ending, Policy, ask, deny, ending, grant, policyOf}
 use Rattle.session.specs.Refusals.{number}
 use Rattle.session.specs.Rounds.{Answer, Move, Outcome, Turn, decided, ends, phaseAfter, refuse, round, run, worked}

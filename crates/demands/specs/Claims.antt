@@ -16,7 +16,7 @@ use Rattle.records.specs.Theorems as records
 use Rattle.policy.specs.Theorems as policy
 use Rattle.evaluation.specs.Theorems as evaluation
 use Rattle.model.specs.Theorems as model
-use Rattle.search.specs.Theorems as search
+use Rattle.preference.specs.Theorems as search
 use Rattle.session.specs.Theorems as session
 use Rattle.session.specs.Rounds.{Move, begins, opening, round}
 use Rattle.session.specs.Sessions.{Session}

@@ -7,7 +7,7 @@ use Rattle.atoms.specs.Sets.{Member, union}
 use Rattle.rules.specs.Stable.{OneStable}
 use Rattle.evaluation.specs.Unlocking.{Unlocks}
 use Rattle.model.specs.Disclosure.{Disclosable}
-use Rattle.search.specs.Question.{Preferred, Question}
+use Rattle.preference.specs.Question.{Preferred, Question}
 use Rattle.session.specs.Endings.{Ending, Policy, ask, deny, grant}
 
 -- "no set of disclosable credentials, neither shown nor declined by that round, unlocks the service beside those shown by then": what such a set is

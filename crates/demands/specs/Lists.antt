@@ -5,7 +5,7 @@ use mathlib.Core.List.{List, [], _∷_}
 use Prim.Native.Nat.{_≤_, ℕ}
 use lib.ListN.{length}
 use Rattle.atoms.specs.Sets.{Member, difference, empty, intersection, union}
-use Rattle.search.specs.Question.{Question, noQuestion}
+use Rattle.preference.specs.Question.{Question, noQuestion}
 use Rattle.session.specs.Endings.{Ending, ask, deny, grant}
 use Rattle.session.specs.Rounds.{Answer, Move, Turn, ends, phaseAfter, refuse, round}
 use Rattle.session.specs.Sessions.{Phase, Session, fresh}

@@ -6,7 +6,7 @@ use Prim.Native.Nat.{_≤_, suc, ℕ}
 use lib.ListN.{length}
 use Rattle.atoms.specs.Sets.{Member, difference, empty, union}
 use Rattle.policy.specs.WrittenForm.{WellFormed}
-use Rattle.search.specs.Question.{Question}
+use Rattle.preference.specs.Question.{Question}
 use Rattle.session.specs.Endings.{Ending, ask, deny, grant, policyOf}
 use Rattle.session.specs.Refusals.{Refusal, number}
 use Rattle.session.specs.Rounds.{Move, Opened, Outcome, Turn, ends, begins, refuses, round, run}

@@ -12,9 +12,9 @@ use Rattle.rules.specs.Rules.{Every}
 use Rattle.evaluation.specs.Unlocking.{unlocks}
 use Rattle.model.specs.Disclosure.{Askable, askable, disclosable}
 use Rattle.model.proofs.DisclosureLaws.{Low, askable-credential, askable-iff, disclosable-adds}
-use Rattle.search.specs.Question.{Preferred, Question, chosen, noQuestion, opensWith}
-use Rattle.search.specs.Theorems.{PreferredOf}
-use Rattle.search.proofs.TheoremsProof as search
+use Rattle.preference.specs.Question.{Preferred, Question, chosen, noQuestion, opensWith}
+use Rattle.preference.specs.Theorems.{PreferredOf}
+use Rattle.preference.proofs.TheoremsProof as search
 use Rattle.session.specs.Endings.{Ending, Policy, ask, conclude, deny, ending, grant, obtainable}
 
 -- ---- the ending, of a policy whose disclosure heads are credentials

@@ -1,5 +1,5 @@
 -- What the program's steps add up to. Assumes nothing.
-use mathlib.Core.Path.{_∙_, _≡_, ap, refl, sym}
+use mathlib.Core.Path.{_∙_, _≡_, ap, refl, subst, sym}
 use mathlib.Core.Bool.{Bool, _&&_, cond, false, not, true}
 use mathlib.Core.List.{List, [], _∷_}
 use mathlib.Core.Option.{Option, Option·map, none, orElse, some}
@@ -8,8 +8,8 @@ use lib.Dec.{eqb}
 use native.Mathlib.Numerals.{add-one}
 use native.Mathlib.Omega.{arith}
 use Rattle.atoms.specs.LittleEndian.{Bytes}
-use Rattle.atoms.specs.Sets.{difference, union}
-use Rattle.atoms.proofs.SetLaws.{union-empty}
+use Rattle.atoms.specs.Sets.{Member, difference, disjoint, union}
+use Rattle.atoms.proofs.SetLaws.{difference-iff, true-disjoint, union-empty}
 use Rattle.atoms.proofs.SizeLaws.{size-most}
 use Rattle.atoms.proofs.TestLaws.{both-true, true-eqb}
 use Rattle.rules.specs.Model.{model}
@@ -19,10 +19,11 @@ use Rattle.policy.specs.WrittenForm as W
 use Rattle.evaluation.specs.Arrays.{LaidOut, evaluated}
 use Rattle.evaluation.specs.Unlocking.{grants, unlocks}
 use Rattle.evaluation.proofs.AccessLaws.{laid-model}
-use Rattle.search.specs.Preference.{preferred}
-use Rattle.search.specs.Question.{Question, candidates, chosen, keys, noQuestion}
-use Rattle.search.specs.Search.{opensIn}
-use Rattle.search.proofs.SearchLaws.{chosen-laid}
+use Rattle.model.specs.Disclosure.{disclosable}
+use Rattle.preference.specs.Preference.{preferred}
+use Rattle.preference.specs.Question.{Question, candidates, chosen, keys, noQuestion}
+use Rattle.preference.specs.InArrays.{opensIn}
+use Rattle.preference.proofs.QuestionLaws.{chosen-laid}
 use Rattle.session.specs.Endings.{Ending, Policy, conclude, ending, grant, obtainable, policyOf}
 use Rattle.session.specs.Refusals.{Refusal, number, ofPolicy}
 use Rattle.session.specs.Rounds.{Move, Outcome, decided, ends, openUnless, opening, phaseAfter, refuses, respond, round, roundRefusal, sessionRefusal, shownAfter, turnedBack, worked}
@@ -53,6 +54,13 @@ module _ (bytes : List ℕ) (b : Bytes bytes) (w : W.WellFormed bytes) (h p m s 
     ends-found f D d o is =
         ap (conclude false) (is ∙ chosen-laid bytes b w h p m s l r P D ∙ ap (chosen (rulesOf accessKind bytes) r P) d)
         ∙ ap (λ (y : Bool). conclude y (chosen (rulesOf accessKind bytes) r P (obtainable (policyOf bytes) P N))) (sym f ∙ unlocked)
+
+-- nothing of what may be asked is shown
+pub obtainable-apart : (pol : Policy) (P N D : ℕ) → D ≡ obtainable pol P N → disjoint P D ≡ true
+obtainable-apart pol P N D e = true-disjoint P D (λ k a b. unshown k (subst (Member k) e b) a)
+  where
+    unshown : (k : ℕ) → Member k (obtainable pol P N) → Member k P → ⊥
+    unshown k m = difference-iff (disclosable (pol .disclosure) P) P k .0 (difference-iff (difference (disclosable (pol .disclosure) P) P) N k .0 m .0) .1
 
 -- ---- a sound session
 

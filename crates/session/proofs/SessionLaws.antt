@@ -15,7 +15,7 @@ use Rattle.policy.specs.WrittenForm as W
 use Rattle.policy.specs.WrittenForm.{AllKept, FirstBroken, PolicyRefused, WellFormed}
 use Rattle.policy.proofs.DecideLaws.{DecideAll, Decides, decides-and, decides-eq, decides-le, decides-not, first-none, first-some, map-none, map-some, then-none, then-some}
 use Rattle.policy.proofs.TheoremsProof as policy
-use Rattle.search.specs.Question.{Question}
+use Rattle.preference.specs.Question.{Question}
 use Rattle.session.specs.Endings.{policyOf}
 use Rattle.session.specs.Refusals.{Refusal, number, ofPolicy}
 use Rattle.session.specs.Rounds.{Move, decided, respond, round, roundRefusal, sessionRefusal, sessionTests, turnedBack, worked}

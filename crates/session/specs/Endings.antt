@@ -8,7 +8,7 @@ use Rattle.rules.specs.Rules.{Rule}
 use Rattle.records.specs.Records.{accessKind, disclosureKind, rulesOf}
 use Rattle.evaluation.specs.Unlocking.{unlocks}
 use Rattle.model.specs.Disclosure.{disclosable}
-use Rattle.search.specs.Question.{Question, chosen}
+use Rattle.preference.specs.Question.{Question, chosen}
 
 -- what a round reads of a policy
 pub record Policy : Type 0 where

@@ -6,7 +6,7 @@ use Prim.Native.Nat.{_+_, _<_, _^_, _≤_, ℕ}
 use lib.Dec.{eqb, leb}
 use Rattle.atoms.specs.Atoms.{firstDerived, lastDerived}
 use Rattle.atoms.specs.Sets.{Member, disjoint, empty, size, union}
-use Rattle.search.specs.Question.{Question, noQuestion}
+use Rattle.preference.specs.Question.{Question, noQuestion}
 
 -- "closed with grant or deny"
 pub data Verdict : Type 0 where

@@ -1,7 +1,7 @@
 -- What the program's types mean: document 01's number and values for each case. Assumes nothing.
 use Prim.Native.Nat.{ℕ}
 use Rattle.policy.specs.Types as policy
-use Rattle.search.specs.Question as Q
+use Rattle.preference.specs.Question as Q
 use Rattle.session.specs.Endings as E
 use Rattle.session.specs.Refusals as R
 use Rattle.session.specs.Rounds as O

@@ -3,7 +3,7 @@ ghost use mathlib.Core.Path.{_≡_};
 ghost use mathlib.Core.Bool.{false};
 ghost use Rattle.atoms.specs.Sets.{difference};
 ghost use Rattle.policy.specs.WrittenForm.{WellFormed};
-ghost use Rattle.search.specs.Types.{foundOf};
+ghost use Rattle.question.specs.Types.{foundOf};
 ghost use Rattle.session.specs.Endings.{conclude, ending, obtainable, policyOf};
 ghost use Rattle.session.specs.Rounds.{phaseAfter};
 ghost use Rattle.session.specs.Sessions.{Service};
@@ -15,8 +15,8 @@ use atoms::AtomSet;
 use evaluation::layout::access_rules;
 use evaluation::levels::unlocks;
 use model::disclosable_of;
-use search::Found;
-use search::preferred;
+use question::Found;
+use question::preferred;
 
 // Under an accepted policy, once these credentials are shown and declined.
 pub(crate) fn ending(policy: &[u8], request: u16, shown: u16, declined: u16) -> Ending

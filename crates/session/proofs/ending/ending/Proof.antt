@@ -2,9 +2,11 @@
 use mathlib.Core.Path.{_∙_}
 use denote.Ref.{now}
 use Rattle.atoms.proofs.ByteLaws.{slice-bytes}
-use Rattle.search.specs.Types.{foundOf}
-use Rattle.session.proofs.ProgramLaws.{ends-found, ends-grant, locked-alone}
+use Rattle.question.specs.Types.{foundOf}
+use Rattle.session.proofs.ProgramLaws.{ends-found, ends-grant, locked-alone, obtainable-apart}
 use borrow.Author.Needs.{needs}
+use native.Mathlib.Omega.{arith}
+use Rattle.session.specs.Endings.{policyOf}
 use Rattle.session.proofs.ending.ending.Statement.{statement}
 use Rattle.session.proofs.ending.ending.Tie as tie
 
@@ -40,8 +42,9 @@ preferred-requires c κs =
     let a = known .before .args in
     let bytes = now (a .policy) in
     let rules = c .before .before .before .before .before .before .before .before .before .before .before .before .before .before .access-rules in
-    let u = c .before .before .before .before .before .before .before .unlocks in (
-      rules .ensures .placed,
+    let u = c .before .before .before .before .before .before .before .unlocks in
+    let within = c .before .before .before .before .before .obtainable in (
+      (rules .ensures .placed, (omega (arith, known .before .pre .1), obtainable-apart (policyOf bytes) (a .shown) (a .declined) (within .result) (within .ensures))),
       locked-alone bytes (slice-bytes bytes (known .shared-slice-known .given)) (known .before .pre .0) (rules .result .heads) (rules .result .positive)
           (rules .result .negated) (rules .result .starts) (rules .ensures) (a .request) (a .shown) (a .declined) _
           (c .before .before .before .before .before .before .before .before .before .before .before .before .before .credentials .ensures) (u .result) (u .ensures)
