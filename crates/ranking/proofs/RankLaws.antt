@@ -54,7 +54,7 @@ lanes-ranked ws count low c k = record {
 -- ---- many blocks
 
 module _ (ws : List ℕ) (count inner : ℕ) (low high : List ℕ) (c : count ≤ 16) (is : inner ≡ min count 8) (L : Keys ws 0 inner low)
-    (H : Keys ws inner (count - inner) high) where
+    (H : Keys ws inner (count - inner) high) (beyond : (i : ℕ) → 2 ^ inner ≤ i → i < 256 → getD low i 0 ≡ never) where
   abbrev key : ℕ → ℕ
   key = keyOf (costOf ws)
 
@@ -110,7 +110,7 @@ module _ (ws : List ℕ) (count inner : ℕ) (low high : List ℕ) (c : count �
       lanes-most = lanes-most;
       blocks-most = blocks-most;
       low-small = L .small;
-      low-beyond = L .beyond;
+      low-beyond = beyond;
       high-small = H .small;
       high-number = λ b l. omega (arith, H .each b l, blocks-most);
     };

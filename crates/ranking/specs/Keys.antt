@@ -23,15 +23,21 @@ pub record Extended (top weight : ℕ) (old new : List ℕ) : Type 0 where
   pub long : length new ≡ length old
   pub kept : (i : ℕ) → i < top → getD new i 0 ≡ getD old i 0
   pub added : (i : ℕ) → i < top → getD new (top + i) 0 ≡ getD old i 0 + weight
+  pub beyond : (i : ℕ) → top + top ≤ i → getD new i 0 ≡ getD old i 0
 
--- the total weights of the candidates of some members, from one on
-pub record Totals (weights : List ℕ) (from members : ℕ) (totals : List ℕ) : Type 0 where
-  pub long : length totals ≡ 256
-  pub each : (i : ℕ) → i < 2 ^ members → getD totals i 0 ≡ weightOf (drop from weights) i
-  pub small : (i : ℕ) → i < 2 ^ members → getD totals i 0 ≤ 255 * members
+-- the total weights of the candidates of some members, from one on; past them nothing is written
+pub record TotalsWritten (weights : List ℕ) (from members : ℕ) (old new : List ℕ) : Type 0 where
+  pub long : length new ≡ length old
+  pub each : (i : ℕ) → i < 2 ^ members → getD new i 0 ≡ weightOf (drop from weights) i
+  pub small : (i : ℕ) → i < 2 ^ members → getD new i 0 ≤ 255 * members
+  pub beyond : (i : ℕ) → 2 ^ members ≤ i → getD new i 0 ≡ getD old i 0
 
--- their keys; past them never
+-- their keys
 pub record Keys (weights : List ℕ) (from members : ℕ) (keys : List ℕ) : Type 0 where
   pub each : (i : ℕ) → i < 2 ^ members → getD keys i 0 ≡ 256 * costOf (drop from weights) i + i
   pub small : (i : ℕ) → i < 2 ^ members → getD keys i 0 < 16777216
-  pub beyond : (i : ℕ) → 2 ^ members ≤ i → i < 256 → getD keys i 0 ≡ never
+
+pub record KeysWritten (weights : List ℕ) (from members : ℕ) (old new : List ℕ) : Type 0 where
+  pub long : length new ≡ length old
+  pub keys : Keys weights from members new
+  pub beyond : (i : ℕ) → 2 ^ members ≤ i → getD new i 0 ≡ getD old i 0

@@ -3,13 +3,12 @@ ghost use mathlib.Core.Path.{_≡_};
 ghost use Prim.Native.Nat.{ℕ, _+_, _*_, _^_, _≤_, _<_};
 ghost use lib.ListN.{length, getD};
 ghost use Rattle.atoms.specs.Sets.{size};
-ghost use Rattle.ranking.specs.Keys.{Extended, Keys, Totals, never};
-use crate::NEVER;
+ghost use Rattle.ranking.specs.Keys.{Extended, KeysWritten, TotalsWritten};
 use atoms::AtomSet;
 
 // One member more: the candidates with it stand behind those without.
-fn extend(totals: &mut [u32; 256], top: usize, weight: u32)
-    requires { ⌜ (top ≤ 128) × (length (now totals) ≡ 256) × ((i : ℕ) → i < top → getD (now totals) i 0 + weight < 2 ^ 32) ⌝ }
+fn extend(totals: &mut [u32], top: usize, weight: u32)
+    requires { ⌜ (top ≤ 128) × (top + top ≤ length (now totals)) × ((i : ℕ) → i < top → getD (now totals) i 0 + weight < 2 ^ 32) ⌝ }
     ensures { λ _. ⌜ Extended top weight (now (totals .entry)) (now (totals .exit)) ⌝ }
 {
     let mut i: usize = 0;
@@ -27,20 +26,19 @@ fn wide(weight: u8) -> u32
 }
 
 // The total weights of the candidates of at most eight members, from one on.
-fn totals(weights: &[u8; 16], from: usize, members: usize) -> [u32; 256]
-    requires { ⌜ (members ≤ 8) × (from + members ≤ 16) ⌝ }
-    ensures { λ r. ⌜ Totals (now (weights .entry)) from members r ⌝ }
+fn write_totals<'a>(totals: &'a mut [u32], weights: &'a [u8; 16], from: usize, members: usize)
+    requires { ⌜ (members ≤ 8) × (from + members ≤ 16) × (2 ^ members ≤ length (now totals)) ⌝ }
+    ensures { λ _. ⌜ TotalsWritten (now (weights .entry)) from members (now (totals .entry)) (now (totals .exit)) ⌝ }
 {
-    let mut totals = [0u32; 256];
+    totals[0] = 0;
     let mut top: usize = 1;
     let mut j: usize = 0;
     while j < members {
         let weight = wide(weights[from + j]);
-        extend(&mut totals, top, weight);
+        extend(totals, top, weight);
         top = 2 * top;
         j += 1;
     }
-    totals
 }
 
 // The key of a candidate: 17 times its weight and the count of its ones are its cost.
@@ -54,25 +52,16 @@ fn key(total: u32, candidate: u32) -> u32
     256 * (17 * total + ones) + candidate
 }
 
-// No candidate yet.
-fn blank() -> [u32; 256]
-    ensures { λ r. ⌜ (length r ≡ 256) × ((i : ℕ) → i < 256 → getD r i 0 ≡ never) ⌝ }
+// The keys of the candidates of at most eight members, from one on. What stands past them is left.
+pub fn write_keys<'a>(keys: &'a mut [u32], weights: &'a [u8; 16], from: usize, members: usize)
+    requires { ⌜ (members ≤ 8) × (from + members ≤ 16) × (2 ^ members ≤ length (now keys)) ⌝ }
+    ensures { λ _. ⌜ KeysWritten (now (weights .entry)) from members (now (keys .entry)) (now (keys .exit)) ⌝ }
 {
-    [NEVER; 256]
-}
-
-// The keys of the candidates of at most eight members, from one on; past them NEVER.
-pub fn keys(weights: &[u8; 16], from: usize, members: usize) -> [u32; 256]
-    requires { ⌜ (members ≤ 8) × (from + members ≤ 16) ⌝ }
-    ensures { λ r. ⌜ Keys (now (weights .entry)) from members r ⌝ }
-{
-    let totals = totals(weights, from, members);
+    write_totals(keys, weights, from, members);
     let count = 1usize << members;
-    let mut keys = blank();
     let mut i: usize = 0;
     while i < count {
-        keys[i] = key(totals[i], i as u32);
+        keys[i] = key(keys[i], i as u32);
         i += 1;
     }
-    keys
 }

@@ -1,5 +1,6 @@
 // The next key in order.
 ghost use Prim.Native.Nat.{_≤_};
+ghost use lib.ListN.{length};
 ghost use Rattle.ranking.specs.Keys.{never};
 ghost use Rattle.ranking.specs.Next.{AtLeast, Least, NextKey};
 use crate::NEVER;
@@ -18,8 +19,8 @@ fn at_least(key: u32, from: u32) -> u32
 }
 
 // The least of the first keys that is at least `from`, or NEVER.
-pub fn next_key(keys: &[u32; 256], count: usize, from: u32) -> u32
-    requires { ⌜ (count ≤ 256) × (from ≤ never) ⌝ }
+pub fn next_key(keys: &[u32], count: usize, from: u32) -> u32
+    requires { ⌜ (count ≤ length (now keys)) × (from ≤ never) ⌝ }
     ensures { λ r. ⌜ NextKey (now (keys .entry)) count from r ⌝ }
 {
     let mut least: u32 = NEVER;

@@ -1,6 +1,7 @@
 // Places: how many candidates come before one, counted by blocks.
 ghost use mathlib.Core.Path.{_≡_};
 ghost use Prim.Native.Nat.{_*_, _-_, _<_, _≤_};
+ghost use lib.ListN.{length};
 ghost use Rattle.ranking.specs.Keys.{never};
 ghost use Rattle.ranking.specs.Place.{Bar, Half, below, keysBelow, keysIn, narrow};
 use crate::NEVER;
@@ -12,8 +13,8 @@ fn below(key: u32, bar: u32) -> u32
 }
 
 // How many of the first keys are below a bar.
-pub fn keys_below(keys: &[u32; 256], count: usize, bar: u32) -> u32
-    requires { ⌜ count ≤ 256 ⌝ }
+pub fn keys_below(keys: &[u32], count: usize, bar: u32) -> u32
+    requires { ⌜ (count ≤ length (now keys)) × (count ≤ 256) ⌝ }
     ensures { λ r. ⌜ (r ≡ keysBelow (now (keys .entry)) count bar) × (r ≤ count) ⌝ }
 {
     let mut n: u32 = 0;

@@ -16,22 +16,24 @@ loop-holds : tie.Need-loop-holds Inv-loop μ-loop
 loop-holds c = (omega arith, extending-none _ _ _)
 
 mul-totals : tie.Need-mul-totals Inv-loop μ-loop
-mul-totals c = omega (arith, c .before .loop .inv .1 .long)
+mul-totals c = omega arith
 
-element-copy-out-totals : tie.Need-element-copy-out-totals Inv-loop μ-loop
-element-copy-out-totals c = omega (arith, c .before .loop .inv .1 .long)
+slice-read-totals : tie.Need-slice-read-totals Inv-loop μ-loop
+slice-read-totals c = omega (arith, c .before .before .loop .inv .1 .long)
 
 add-totals : tie.Need-add-totals Inv-loop μ-loop
-add-totals c = let v = c .before .before .loop .inv .1 in omega (arith, v .kept _ (c .before .loop-test .taken), c .before .before .before .pre .2 _ (c .before .loop-test .taken))
+add-totals c =
+    let v = c .before .before .loop .inv .1 in
+    omega (arith, v .kept _ (c .before .loop-test .taken), c .before .before .before .pre .2 _ (c .before .loop-test .taken))
 
 add-totals-2 : tie.Need-add-totals-2 Inv-loop μ-loop
 add-totals-2 c = omega arith
 
 mul-totals-2 : tie.Need-mul-totals-2 Inv-loop μ-loop
-mul-totals-2 c = omega (arith, c .before .before .loop .inv .1 .long)
+mul-totals-2 c = omega arith
 
-element-write-totals : tie.Need-element-write-totals Inv-loop μ-loop
-element-write-totals c = omega (arith, c .before .before .loop .inv .1 .long)
+slice-write-totals : tie.Need-slice-write-totals Inv-loop μ-loop
+slice-write-totals c = omega (arith, c .before .before .loop .inv .1 .long)
 
 add-i : tie.Need-add-i Inv-loop μ-loop
 add-i c = omega arith
@@ -40,7 +42,12 @@ loop-less : tie.Need-loop-less Inv-loop μ-loop
 loop-less c = omega arith
 
 loop-again : tie.Need-loop-again Inv-loop μ-loop
-loop-again c = (omega arith, rw add-one (extending-more _ _ _ _ _ (c .before .before .loop .inv .1) (c .before .loop-test .taken) (omega (arith, c .before .before .loop .inv .1 .long))))
+loop-again c =
+    let v = c .before .before .loop .inv .1 in
+    (omega arith, rw add-one (extending-more _ _ _ _ _ v (c .before .loop-test .taken) (omega (arith, v .long))))
+
+same-length : tie.Need-same-length Inv-loop μ-loop
+same-length c = c .before .loop .inv .1 .long
 
 returns : tie.Need-returns Inv-loop μ-loop
 returns c = extending-all _ _ _ _ _ (c .before .loop .inv .1) (c .loop-test .left)
@@ -53,12 +60,13 @@ extend-spec =
     μ-loop
     loop-holds
     mul-totals
-    element-copy-out-totals
+    slice-read-totals
     add-totals
     add-totals-2
     mul-totals-2
-    element-write-totals
+    slice-write-totals
     add-i
     loop-less
     loop-again
+    same-length
     returns)

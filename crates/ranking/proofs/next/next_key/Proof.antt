@@ -20,8 +20,8 @@ loop-holds c = (omega arith, next-none _ _ (omega arith))
 mul-at-least : tie.Need-mul-at-least Inv-loop μ-loop
 mul-at-least c = omega arith
 
-element-copy-out-at-least : tie.Need-element-copy-out-at-least Inv-loop μ-loop
-element-copy-out-at-least c = omega arith
+shared-slice-read-at-least : tie.Need-shared-slice-read-at-least Inv-loop μ-loop
+shared-slice-read-at-least c = omega arith
 
 at-least-requires : tie.Need-at-least-requires Inv-loop μ-loop
 at-least-requires c κs = search needs
@@ -36,7 +36,8 @@ loop-less : tie.Need-loop-less Inv-loop μ-loop
 loop-less c = omega arith
 
 loop-again : tie.Need-loop-again Inv-loop μ-loop
-loop-again c = (omega arith, rw add-one (next-more _ _ _ _ _ _ (c .before .before .before .before .loop .inv .1) (c .before .at-least .ensures) (c .lesser .ensures)))
+loop-again c =
+    (omega arith, rw add-one (next-more _ _ _ _ _ _ (c .before .before .before .before .loop .inv .1) (c .before .at-least .ensures) (c .lesser .ensures)))
 
 returns : tie.Need-returns Inv-loop μ-loop
 returns c = let v = c .before .loop .inv .1 in record { rises = v .rises; most = v .most; least = λ i k. v .least i (omega arith); one = λ k. let o = v .one k in (o .0, omega (arith, o .1), o .2) }
@@ -49,7 +50,7 @@ next-key-spec =
     μ-loop
     loop-holds
     mul-at-least
-    element-copy-out-at-least
+    shared-slice-read-at-least
     at-least-requires
     lesser-requires
     add-i

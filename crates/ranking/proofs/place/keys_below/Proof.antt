@@ -21,14 +21,16 @@ loop-holds c = (omega arith, omega arith, sym (none-below _ _))
 mul-below : tie.Need-mul-below Inv-loop μ-loop
 mul-below c = omega arith
 
-element-copy-out-below : tie.Need-element-copy-out-below Inv-loop μ-loop
-element-copy-out-below c = omega arith
+shared-slice-read-below : tie.Need-shared-slice-read-below Inv-loop μ-loop
+shared-slice-read-below c = omega arith
 
 below-requires : tie.Need-below-requires Inv-loop μ-loop
 below-requires c κs = search needs
 
 add-n : tie.Need-add-n Inv-loop μ-loop
-add-n c = omega (arith, c .below .ensures, below-most (getD (c .before .before .before .before .args .keys .now) (c .before .before .before .loop .i) 0) (c .before .before .before .before .args .bar))
+add-n c =
+    let a = c .before .before .before .before .before .args in
+    omega (arith, c .below .ensures, below-most (getD (a .keys .now) (c .before .before .before .loop .i) 0) (a .bar))
 
 add-i : tie.Need-add-i Inv-loop μ-loop
 add-i c = omega arith
@@ -37,12 +39,17 @@ loop-less : tie.Need-loop-less Inv-loop μ-loop
 loop-less c = omega arith
 
 loop-again : tie.Need-loop-again Inv-loop μ-loop
-loop-again c = let v = c .before .before .before .loop in let a = c .before .before .before .before .args in
-    (omega arith, omega (arith, c .below .ensures, below-most (getD (a .keys .now) (v .i) 0) (a .bar)), omega (arith, v .inv .2, c .below .ensures, more-below (a .keys .now) (v .i) (a .bar)))
+loop-again c =
+    let v = c .before .before .before .loop in
+    let a = c .before .before .before .before .before .args in (
+      omega arith,
+      omega (arith, c .below .ensures, below-most (getD (a .keys .now) (v .i) 0) (a .bar)),
+      omega (arith, v .inv .2, c .below .ensures, more-below (a .keys .now) (v .i) (a .bar)),
+    )
 
 returns : tie.Need-returns Inv-loop μ-loop
 returns c = let v = c .before .loop .inv in
-    let e = c .before .before .args in
+    let e = c .before .before .before .args in
     (v .2 ∙ ap (λ (x : ℕ). keysBelow (e .keys .now) x (e .bar)) (omega arith), omega arith)
 
 pub keys-below-spec : {M : Type 1} → statement M
@@ -53,7 +60,7 @@ keys-below-spec =
     μ-loop
     loop-holds
     mul-below
-    element-copy-out-below
+    shared-slice-read-below
     below-requires
     add-n
     add-i

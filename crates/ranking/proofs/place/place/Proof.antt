@@ -43,10 +43,10 @@ loop-less c = omega arith
 
 loop-again : tie.Need-loop-again Inv-loop μ-loop
 loop-again c =
-    let v = c .before .before .before .before .before .loop in (
+    let v = c .before .before .before .before .before .before .loop in (
       omega arith,
       omega (arith, c .keys-below .ensures .1),
-      more-in _ _ _ _ _ _ _ _ _ (v .inv .2) (c .before .before .left .ensures .0) (c .before .narrow .ensures) (c .keys-below .ensures .0),
+      more-in _ _ _ _ _ _ _ _ _ (v .inv .2) (c .before .before .before .left .ensures .0) (c .before .before .narrow .ensures) (c .keys-below .ensures .0),
     )
 
 cast-result : tie.Need-cast-result Inv-loop μ-loop
