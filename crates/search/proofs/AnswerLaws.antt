@@ -10,16 +10,19 @@ use lib.ListN.{getD}
 use lib.Pow.{pow-mono, pow-pos}
 use native.Mathlib.Decide.{decLt, ℕ-discrete}
 use native.Mathlib.Omega.{arith}
+use Rattle.preference.specs.Candidates.{switched}
+use Rattle.preference.specs.InArrays.{opensAt}
 use Rattle.preference.specs.Order.{Result, costOf, found, nothing, place, searched, spent, sum}
-use Rattle.preference.proofs.OrderLaws.{searched-means}
+use Rattle.preference.proofs.OrderLaws.{searched-means, searched-same}
 use Rattle.preference.proofs.OrderTheoremsProof.{other-places}
+use Rattle.relevance.specs.Places.{SameAnswer}
 use Rattle.ranking.specs.Grid.{Grid, Ranked, Settled, Tables, neverKey}
 use Rattle.ranking.specs.Keys.{Keys, keyOf, never}
 use Rattle.ranking.specs.Place.{Bar, below, keysBelow, keysIn}
 use Rattle.ranking.proofs.GridLaws.{counted}
 use Rattle.ranking.proofs.RankLaws.{grid, lanes-ranked, ranked}
 use Rattle.ranking.proofs.SettledLaws.{place-is, settled-found, settled-nothing}
-use Rattle.search.specs.Blocks.{BestOf}
+use Rattle.search.specs.Blocks.{BestOf, KeyTable}
 use Rattle.search.specs.Singles.{FirstLane, Numbered}
 use Rattle.search.specs.Types.{limited}
 use Rattle.search.proofs.BlockLaws.{settled-blocks}
@@ -43,9 +46,9 @@ module _ (cost key : ℕ → ℕ) (N bound : ℕ) (ranked : Ranked cost key N bo
 
 -- ---- one by one
 
-module _ (ws : List ℕ) (count : ℕ) (low : List ℕ) (c : count ≤ 8) (k : Keys ws 0 count low) where
-  top : 2 ^ count ≤ 256
-  top = pow-mono {i = count} {j = 8} c
+module _ (ws : List ℕ) (count : ℕ) (low : List ℕ) (c : count ≤ 3) (k : Keys ws 0 count low) where
+  top : 2 ^ count ≤ 8
+  top = pow-mono {i = count} {j = 3} c
 
   number : (i : ℕ) → i < 2 ^ count → getD low i 0 % 256 ≡ i
   number i l = omega (arith, k .each i l, top)
@@ -64,27 +67,27 @@ module _ (ws : List ℕ) (count : ℕ) (low : List ℕ) (c : count ≤ 8) (k : K
 
     pub single-nothing : never ≤ best → limited limit (nothing (lanes - 1)) ≡ searched (costOf ws) test (2 ^ count) limit
     single-nothing l =
-        answer-nothing (costOf ws) (λ i. getD low i 0) (2 ^ count) never (lanes-ranked ws count low c k) test limit best first (lanes - 1) (pow-pos count) l
+        answer-nothing (costOf ws) (λ i. getD low i 0) (2 ^ count) never (lanes-ranked ws count low (omega arith) k) test limit best first (lanes - 1) (pow-pos count) l
         (omega arith)
 
     pub single-found : (at : ℕ) → best < never → at ≡ keysBelow low lanes best
         → limited limit (found (best % 256) at) ≡ searched (costOf ws) test (2 ^ count) limit
     unfolding keysBelow
     single-found at l p =
-        answer-found (costOf ws) (λ i. getD low i 0) (2 ^ count) never (lanes-ranked ws count low c k) test limit best first (best % 256) at l
+        answer-found (costOf ws) (λ i. getD low i 0) (2 ^ count) never (lanes-ranked ws count low (omega arith) k) test limit best first (best % 256) at l
         (λ n i d. omega (arith, number n i)) (p ∙ ap (λ (x : ℕ). keysBelow low x best) e)
 
 -- ---- by blocks
 
 module _ (ws : List ℕ) (count inner : ℕ) (low : List ℕ) (lanes : ℕ) (high : List ℕ) (blocks : ℕ) (c : count ≤ 16) (is : inner ≡ min count 8) (i : lanes ≡ 2 ^ inner)
-    (j : blocks ≡ 2 ^ (count - inner)) (L : Keys ws 0 inner low) (H : Keys ws inner (count - inner) high) where
+    (j : blocks ≡ 2 ^ (count - inner)) (L : KeyTable ws 0 inner low) (H : KeyTable ws inner (count - inner) high) where
   abbrev key : ℕ → ℕ
   key = keyOf (costOf ws)
 
   grid-of : Grid key (2 ^ count) low lanes high blocks
   grid-of =
       subst (λ (x : ℕ). Grid key (2 ^ count) low x high blocks) (sym i)
-      (subst (λ (x : ℕ). Grid key (2 ^ count) low (2 ^ inner) high x) (sym j) (grid ws count inner low high c is L H))
+      (subst (λ (x : ℕ). Grid key (2 ^ count) low (2 ^ inner) high x) (sym j) (grid ws count inner low high c is (L .keys) (H .keys) (L .beyond)))
 
   pub tables-of : Tables low lanes high blocks
   tables-of = grid-of .tables
@@ -95,13 +98,13 @@ module _ (ws : List ℕ) (count inner : ℕ) (low : List ℕ) (lanes : ℕ) (hig
 
     pub block-nothing : (tried : ℕ) → neverKey ≤ best → tried ≡ 2 ^ count - 1 → limited limit (nothing tried) ≡ searched (costOf ws) test (2 ^ count) limit
     block-nothing tried l e =
-        answer-nothing (costOf ws) key (2 ^ count) neverKey (ranked ws count inner low high c is L H) test limit best settled tried (pow-pos count) l e
+        answer-nothing (costOf ws) key (2 ^ count) neverKey (ranked ws count inner low high c is (L .keys) (H .keys) (L .beyond)) test limit best settled tried (pow-pos count) l e
 
     pub block-found : (at : ℕ) → best < neverKey → at ≡ keysIn low lanes high blocks best
         → limited limit (found (best % 65536) at) ≡ searched (costOf ws) test (2 ^ count) limit
     unfolding keyOf
     block-found at l p =
-        answer-found (costOf ws) key (2 ^ count) neverKey (ranked ws count inner low high c is L H) test limit best settled (best % 65536) at l
+        answer-found (costOf ws) key (2 ^ count) neverKey (ranked ws count inner low high c is (L .keys) (H .keys) (L .beyond)) test limit best settled (best % 65536) at l
         (λ n k d. omega (arith, pow-mono {i = count} {j = 16} c))
         (p ∙ counted key (2 ^ count) low lanes high blocks grid-of best)
 
@@ -125,3 +128,12 @@ answer-zero ws test N tried limit p z t e =
     go (no k) =
         let h : N - 1 ≤ 0 = omega arith in
         searched-means (costOf ws) test N 0 p (nothing (N - 1)) .1 ((λ m l. ap test (omega arith) ∙ t), omega arith, h) ∙ simp (le-ltb _ _ h)
+
+-- ---- fewer rules
+
+pub answer-relevant : (r : ℕ) (h p m s H P M S : List ℕ) → SameAnswer r h p m s H P M S → (ws : List ℕ) (shown : ℕ) (members : List ℕ) (count limit : ℕ)
+    → searched (costOf ws) (opensAt H P M S r shown members count) (2 ^ count) limit ≡ searched (costOf ws) (opensAt h p m s r shown members count) (2 ^ count) limit
+unfolding opensAt
+answer-relevant r h p m s H P M S same ws shown members count limit =
+    searched-same (costOf ws) (opensAt H P M S r shown members count) (opensAt h p m s r shown members count) (2 ^ count)
+    (λ n. same .same (switched shown members count n)) (pow-pos count) limit

@@ -3,10 +3,15 @@ use mathlib.Core.Path.{_≡_}
 use mathlib.Core.Logic.{_⊎_}
 use mathlib.Core.Bool.{Bool, false, true}
 use mathlib.Core.List.{List}
-use Prim.Native.Nat.{_%_, _*_, _+_, _<_, _≤_, ℕ}
+use Prim.Native.Nat.{_%_, _*_, _+_, _<_, _^_, _≤_, ℕ}
 use lib.ListN.{getD}
 use Rattle.ranking.specs.Grid.{keyAt, neverKey}
-use Rattle.ranking.specs.Keys.{never, widened}
+use Rattle.ranking.specs.Keys.{Keys, never, widened}
+
+-- the keys of the candidates of some members, from one on; past them never
+pub record KeyTable (weights : List ℕ) (from members : ℕ) (table : List ℕ) : Type 0 where
+  pub keys : Keys weights from members table
+  pub beyond : (i : ℕ) → 2 ^ members ≤ i → i < 256 → getD table i 0 ≡ never
 
 -- the lesser of two keys
 pub record Better (best key r : ℕ) : Type 0 where

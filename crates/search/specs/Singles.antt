@@ -12,7 +12,7 @@ use Rattle.ranking.specs.Place.{keysBelow}
 -- a lane's number can be read off its key
 pub record Numbered (low : List ℕ) (lanes : ℕ) : Type 0 where
   pub some : 0 < lanes
-  pub most : lanes ≤ 256
+  pub most : lanes ≤ 8
   pub number : (i : ℕ) → i < lanes → getD low i 0 % 256 ≡ i
   pub small : (i : ℕ) → i < lanes → getD low i 0 < never
 

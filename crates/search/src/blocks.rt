@@ -1,7 +1,7 @@
 // The candidates of many members, 256 at a time. Blocks are taken in order of their own keys, which no key of a candidate in them is below.
 ghost use mathlib.Core.Path.{_≡_};
-ghost use Prim.Native.Nat.{_*_, _+_, _-_, _<_, _^_, _≤_, min};
-ghost use lib.ListN.{getD};
+ghost use Prim.Native.Nat.{ℕ, _*_, _+_, _-_, _<_, _^_, _≤_, min};
+ghost use lib.ListN.{getD, length};
 ghost use Rattle.evaluation.specs.Arrays.{Placed};
 ghost use Rattle.preference.specs.Candidates.{Members};
 ghost use Rattle.preference.specs.InArrays.{opensAt};
@@ -9,7 +9,7 @@ ghost use Rattle.preference.specs.Order.{costOf, searched};
 ghost use Rattle.ranking.specs.Grid.{Tables};
 ghost use Rattle.ranking.specs.Keys.{never, widened};
 ghost use Rattle.ranking.specs.Place.{Bar};
-ghost use Rattle.search.specs.Blocks.{BestOf, Better, LaneKeys, Last, Visited};
+ghost use Rattle.search.specs.Blocks.{BestOf, Better, KeyTable, LaneKeys, Last, Visited};
 ghost use Rattle.search.specs.Types.{resultOf};
 use crate::answer::Answer;
 use crate::answer::found;
@@ -18,13 +18,30 @@ use crate::candidate::candidates;
 use lanes::blocks::block;
 use ranking::NEVER;
 use ranking::cheapest::cheapest;
-use ranking::keys::keys;
+use ranking::keys::write_keys;
 use ranking::next::next_key;
 use ranking::place::bar;
 use ranking::place::place;
 
 // Past the key of any candidate.
 const NEVER_KEY: u64 = 274877906944;
+
+// A table with no key yet.
+fn blank() -> [u32; 256]
+    ensures { λ r. ⌜ (length r ≡ 256) × ((i : ℕ) → i < 256 → getD r i 0 ≡ never) ⌝ }
+{
+    [NEVER; 256]
+}
+
+// The keys of the candidates of at most eight members, from one on; past them NEVER.
+fn table(weights: &[u8; 16], from: usize, members: usize) -> [u32; 256]
+    requires { ⌜ (members ≤ 8) × (from + members ≤ 16) ⌝ }
+    ensures { λ r. ⌜ KeyTable (now (weights .entry)) from members r ⌝ }
+{
+    let mut keys = blank();
+    write_keys(&mut keys, weights, from, members);
+    keys
+}
 
 fn lesser(a: usize, b: usize) -> usize
     ensures { λ r. ⌜ r ≡ min a b ⌝ }
@@ -54,8 +71,8 @@ pub(crate) fn by_blocks<'a>(
     let inner = lesser(count, 8);
     let lanes = candidates(inner);
     let blocks = candidates(count - inner);
-    let low = keys(weights, 0, inner);
-    let high = keys(weights, inner, count - inner);
+    let low = table(weights, 0, inner);
+    let high = table(weights, inner, count - inner);
     let end = limit_bar(&low, lanes, &high, blocks, limit);
     let best = best_of(
         heads,

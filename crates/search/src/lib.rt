@@ -11,6 +11,7 @@ use answer::Answer;
 use answer::nothing;
 use blocks::by_blocks;
 use candidate::candidates;
+use relevance::relevant_rules;
 use singles::one_by_one;
 
 pub mod answer;
@@ -18,8 +19,10 @@ mod blocks;
 pub mod candidate;
 mod singles;
 
-// Of so many members the candidates are tried one by one.
+// Of so many members the candidates are tried one by one; of so many they are one block.
 const FEW: usize = 3;
+
+const ONE_BLOCK: usize = 8;
 
 // Candidate n tries the shown set with the members switched whose bits n has, of the first `count`. It costs 17 times the weight of these members and
 // the count of its ones. The rules are in arrays, laid out by level; the shown set alone does not unlock the request.
@@ -45,8 +48,8 @@ pub fn first<'a>(
     if limit == 0 {
         return nothing(candidates(count) - 1, limit);
     }
-    if count > FEW {
-        by_blocks(
+    if count <= FEW {
+        return one_by_one(
             heads,
             positive,
             negated,
@@ -57,19 +60,66 @@ pub fn first<'a>(
             count,
             weights,
             limit,
-        )
-    } else {
-        one_by_one(
-            heads,
-            positive,
-            negated,
-            starts,
-            request,
-            shown,
-            members,
-            count,
-            weights,
-            limit,
-        )
+        );
     }
+    if count <= ONE_BLOCK {
+        return by_blocks(
+            heads,
+            positive,
+            negated,
+            starts,
+            request,
+            shown,
+            members,
+            count,
+            weights,
+            limit,
+        );
+    }
+    by_relevant_rules(
+        heads,
+        positive,
+        negated,
+        starts,
+        request,
+        shown,
+        members,
+        count,
+        weights,
+        limit,
+    )
+}
+
+// The same with the rules alone that bear on the request: to find them takes as long as to evaluate a block or two.
+fn by_relevant_rules<'a>(
+    heads: &'a [u64; 128],
+    positive: &'a [u64; 128],
+    negated: &'a [u64; 128],
+    starts: &'a [usize; 10],
+    request: u8,
+    shown: u16,
+    members: &'a [u16; 16],
+    count: usize,
+    weights: &'a [u8; 16],
+    limit: usize,
+) -> Answer
+    requires { ⌜ Placed (now heads) (now starts) × ((request ≤ 63) × Members (now members) count) ⌝ }
+    ensures { λ r.
+        ⌜ resultOf r ≡ searched (costOf (now (weights .entry)))
+        (opensAt (now (heads .entry)) (now (positive .entry)) (now (negated .entry)) (now (starts .entry)) request shown (now (members .entry)) count)
+        (2 ^ count) limit ⌝ }
+{
+    let rules = relevant_rules(heads, positive, negated, starts, request);
+    by_blocks(
+        &rules.heads,
+        &rules.positive,
+        &rules.negated,
+        &rules.starts,
+        request,
+        shown,
+        members,
+        count,
+        weights,
+        limit,
+    )
 }

@@ -13,7 +13,7 @@ use crate::answer::nothing;
 use crate::candidate::candidates;
 use crate::candidate::opens;
 use ranking::NEVER;
-use ranking::keys::keys;
+use ranking::keys::write_keys;
 use ranking::next::next_key;
 use ranking::place::keys_below;
 
@@ -30,7 +30,7 @@ pub(crate) fn one_by_one<'a>(
     weights: &'a [u8; 16],
     limit: usize,
 ) -> Answer
-    requires { ⌜ (Placed (now heads) (now starts) × (count ≤ 8))
+    requires { ⌜ (Placed (now heads) (now starts) × (count ≤ 3))
         × (opensAt (now heads) (now positive) (now negated) (now starts) request shown (now members) count 0 ≡ false) ⌝ }
     ensures { λ r.
         ⌜ resultOf r ≡ searched (costOf (now (weights .entry)))
@@ -38,7 +38,8 @@ pub(crate) fn one_by_one<'a>(
         (2 ^ count) limit ⌝ }
 {
     let lanes = candidates(count);
-    let low = keys(weights, 0, count);
+    let mut low = [NEVER; 8];
+    write_keys(&mut low, weights, 0, count);
     let best = first_lane(
         heads,
         positive,
@@ -69,11 +70,11 @@ fn first_lane<'a>(
     shown: u16,
     members: &'a [u16; 16],
     count: usize,
-    low: &'a [u32; 256],
+    low: &'a [u32; 8],
     lanes: usize,
     limit: usize,
 ) -> u32
-    requires { ⌜ (Placed (now heads) (now starts) × ((count ≤ 8) × Numbered (now low) lanes))
+    requires { ⌜ (Placed (now heads) (now starts) × ((count ≤ 3) × Numbered (now low) lanes))
         × (opensAt (now heads) (now positive) (now negated) (now starts) request shown (now members) count 0 ≡ false) ⌝ }
     ensures { λ r.
         ⌜ FirstLane (opensAt (now (heads .entry)) (now (positive .entry)) (now (negated .entry)) (now (starts .entry)) request shown (now (members .entry)) count)
@@ -104,8 +105,8 @@ fn first_lane<'a>(
 }
 
 // No lane is left, or the one of this key stands past the limit, which is not counted where none can.
-fn is_past(low: &[u32; 256], lanes: usize, key: u32, limit: usize) -> bool
-    requires { ⌜ (0 < lanes) × (lanes ≤ 256) ⌝ }
+fn is_past(low: &[u32; 8], lanes: usize, key: u32, limit: usize) -> bool
+    requires { ⌜ (0 < lanes) × (lanes ≤ 8) ⌝ }
     ensures { λ r. ⌜ Past (now (low .entry)) lanes key limit r ⌝ }
 {
     if NEVER <= key {

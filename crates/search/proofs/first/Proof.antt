@@ -22,17 +22,23 @@ returns c =
     c .nothing .ensures
     ∙ answer-zero _ _ _ _ _ (pow-pos (s .args .count)) (c .before .before .if1 .taken) (s .pre .1) (omega (arith, c .before .candidates .ensures .0))
 
-by-blocks-requires : tie.Need-by-blocks-requires
-by-blocks-requires c κs = search needs
-
 one-by-one-requires : tie.Need-one-by-one-requires
 one-by-one-requires c κs = search needs
 
 returns-2 : tie.Need-returns-2
 returns-2 c = search needs
 
+by-blocks-requires : tie.Need-by-blocks-requires
+by-blocks-requires c κs = search needs
+
 returns-3 : tie.Need-returns-3
 returns-3 c = search needs
+
+by-relevant-rules-requires : tie.Need-by-relevant-rules-requires
+by-relevant-rules-requires c κs = search needs
+
+returns-4 : tie.Need-returns-4
+returns-4 c = search needs
 
 pub first-spec : {M : Type 1} → statement M
 first-spec =
@@ -42,7 +48,9 @@ first-spec =
     sub-nothing
     nothing-requires
     returns
-    by-blocks-requires
     one-by-one-requires
     returns-2
-    returns-3)
+    by-blocks-requires
+    returns-3
+    by-relevant-rules-requires
+    returns-4)

@@ -20,17 +20,20 @@ loop-holds : tie.Need-loop-holds Inv-loop μ-loop
 loop-holds c = (omega arith, best-none _ _ _ _ _)
 
 next-key-requires : tie.Need-next-key-requires Inv-loop μ-loop
-next-key-requires c κs = (c .before .pre .1 .0 .blocks-most, c .loop .inv .0)
+next-key-requires c κs =
+    let most = c .before .before .pre .1 .0 .blocks-most in
+    let from = c .before .loop .inv .0 in
+    search needs
 
 is-last-requires : tie.Need-is-last-requires Inv-loop μ-loop
 is-last-requires c κs = search needs
 
 returns : tie.Need-returns Inv-loop μ-loop
-returns c = best-end _ _ _ _ _ (c .before .before .before .before .pre .1 .0) _ _ _ (c .before .before .before .loop .inv .1) (c .before .before .next-key .ensures) _ _ (c .before .is-last .ensures) (c .if1 .taken)
+returns c = best-end _ _ _ _ _ (c .before .before .before .before .before .pre .1 .0) _ _ _ (c .before .before .before .before .loop .inv .1) (c .before .before .next-key .ensures) _ _ (c .before .is-last .ensures) (c .if1 .taken)
 
 visit-requires : tie.Need-visit-requires Inv-loop μ-loop
 visit-requires c κs =
-    let p = c .before .before .before .before .pre in
+    let p = c .before .before .before .before .before .pre in
     (p .0, record { most = p .1 .0 .lanes-most; beyond = p .1 .0 .low-beyond })
 
 add-from : tie.Need-add-from Inv-loop μ-loop
@@ -42,9 +45,9 @@ loop-less c = let k = c .before .before .is-last .ensures .no (c .before .if1 .l
 loop-again : tie.Need-loop-again Inv-loop μ-loop
 loop-again c =
     let k = c .before .before .is-last .ensures .no (c .before .if1 .left) in
-    let p = c .before .before .before .before .before .pre .1 in (
+    let p = c .before .before .before .before .before .before .pre .1 in (
       omega (arith, p .1),
-      best-more _ _ _ _ _ (p .0) _ _ _ (c .before .before .before .before .loop .inv .1) (c .before .before .before .next-key .ensures) _ (omega (arith, p .1)) (c .visit .ensures),
+      best-more _ _ _ _ _ (p .0) _ _ _ (c .before .before .before .before .before .loop .inv .1) (c .before .before .before .next-key .ensures) _ (omega (arith, p .1)) (c .visit .ensures),
     )
 
 pub best-of-spec : {M : Type 1} → statement M

@@ -19,27 +19,27 @@ sub-candidates c = search needs
 candidates-requires-2 : tie.Need-candidates-requires-2
 candidates-requires-2 c κs = search needs
 
-keys-requires : tie.Need-keys-requires
-keys-requires c κs = search needs
+table-requires : tie.Need-table-requires
+table-requires c κs = search needs
 
-sub-keys : tie.Need-sub-keys
-sub-keys c = search needs
+sub-table : tie.Need-sub-table
+sub-table c = search needs
 
-keys-requires-2 : tie.Need-keys-requires-2
-keys-requires-2 c κs = search needs
+table-requires-2 : tie.Need-table-requires-2
+table-requires-2 c κs = search needs
 
 limit-bar-requires : tie.Need-limit-bar-requires
 limit-bar-requires c κs =
-    let t = tables-of _ _ _ _ _ _ _ (omega arith) (c .before .before .before .before .before .before .lesser .ensures) (c .before .before .before .before .before .candidates .ensures .0) (c .before .before .before .before .candidates2 .ensures .0) (c .before .before .before .keys .ensures) (c .before .before .keys2 .ensures) in
+    let t = tables-of _ _ _ _ _ _ _ (omega arith) (c .before .before .before .before .before .before .lesser .ensures) (c .before .before .before .before .before .candidates .ensures .0) (c .before .before .before .before .candidates2 .ensures .0) (c .before .before .before .table .ensures) (c .before .before .table2 .ensures) in
     let n = c .before .before .before .before .candidates2 .ensures .1 .0 in
     ((t .lanes-most, (n, t .blocks-most)), omega (arith, t .high-small (c .before .before .before .before .candidates2 .result - 1) (omega arith)))
 
 best-of-requires : tie.Need-best-of-requires
 best-of-requires c κs =
-    (c .before .before .before .before .before .before .before .before .before .before .pre, (tables-of _ _ _ _ _ _ _ (omega arith) (c .before .before .before .before .before .before .before .before .before .lesser .ensures) (c .before .before .before .before .before .before .before .before .candidates .ensures .0) (c .before .before .before .before .before .before .before .candidates2 .ensures .0) (c .before .before .before .before .before .before .keys .ensures) (c .before .before .before .before .before .keys2 .ensures), c .before .before .limit-bar .ensures .most))
+    (c .before .before .before .before .before .before .before .before .before .before .pre, (tables-of _ _ _ _ _ _ _ (omega arith) (c .before .before .before .before .before .before .before .before .before .lesser .ensures) (c .before .before .before .before .before .before .before .before .candidates .ensures .0) (c .before .before .before .before .before .before .before .candidates2 .ensures .0) (c .before .before .before .before .before .before .table .ensures) (c .before .before .before .before .before .table2 .ensures), c .before .before .limit-bar .ensures .most))
 
 candidates-requires-3 : tie.Need-candidates-requires-3
-candidates-requires-3 c κs = search needs
+candidates-requires-3 c κs = c .before .before .before .before .before .before .before .before .before .before .before .before .pre .1 .1 .0
 
 sub-nothing : tie.Need-sub-nothing
 sub-nothing c = search needs
@@ -50,12 +50,12 @@ nothing-requires c κs = search needs
 returns : tie.Need-returns
 returns c =
     c .nothing .ensures
-    ∙ block-nothing _ _ _ _ _ _ _ (c .before .before .before .before .before .before .before .before .before .before .before .before .before .before .pre .1 .1 .0) (c .before .before .before .before .before .before .before .before .before .before .before .before .before .lesser .ensures) (c .before .before .before .before .before .before .before .before .before .before .before .before .candidates .ensures .0) (c .before .before .before .before .before .before .before .before .before .before .before .candidates2 .ensures .0) (c .before .before .before .before .before .before .before .before .before .before .keys .ensures)
-    (c .before .before .before .before .before .before .before .before .before .keys2 .ensures) _ _ _ _ (c .before .before .before .before .before .before .limit-bar .ensures) (c .before .before .before .best-of .ensures) _ (c .before .before .if1 .taken) (omega (arith, c .before .candidates3 .ensures .0))
+    ∙ block-nothing _ _ _ _ _ _ _ (c .before .before .before .before .before .before .before .before .before .before .before .before .before .before .pre .1 .1 .0) (c .before .before .before .before .before .before .before .before .before .before .before .before .before .lesser .ensures) (c .before .before .before .before .before .before .before .before .before .before .before .before .candidates .ensures .0) (c .before .before .before .before .before .before .before .before .before .before .before .candidates2 .ensures .0) (c .before .before .before .before .before .before .before .before .before .before .table .ensures)
+    (c .before .before .before .before .before .before .before .before .before .table2 .ensures) _ _ _ _ (c .before .before .before .before .before .before .limit-bar .ensures) (c .before .before .before .best-of .ensures) _ (c .before .before .if1 .taken) (omega (arith, c .before .candidates3 .ensures .0))
 
 place-requires : tie.Need-place-requires
 place-requires c κs =
-    let t = tables-of _ _ _ _ _ _ _ (c .before .before .before .before .before .before .before .before .before .before .before .before .before .before .pre .1 .1 .0) (c .before .before .before .before .before .before .before .before .before .before .before .before .before .lesser .ensures) (c .before .before .before .before .before .before .before .before .before .before .before .before .candidates .ensures .0) (c .before .before .before .before .before .before .before .before .before .before .before .candidates2 .ensures .0) (c .before .before .before .before .before .before .before .before .before .before .keys .ensures) (c .before .before .before .before .before .before .before .before .before .keys2 .ensures) in
+    let t = tables-of _ _ _ _ _ _ _ (c .before .before .before .before .before .before .before .before .before .before .before .before .before .before .pre .1 .1 .0) (c .before .before .before .before .before .before .before .before .before .before .before .before .before .lesser .ensures) (c .before .before .before .before .before .before .before .before .before .before .before .before .candidates .ensures .0) (c .before .before .before .before .before .before .before .before .before .before .before .candidates2 .ensures .0) (c .before .before .before .before .before .before .before .before .before .before .table .ensures) (c .before .before .before .before .before .before .before .before .before .table2 .ensures) in
     (t .lanes-most, (t .blocks-most, omega arith))
 
 found-requires : tie.Need-found-requires
@@ -64,8 +64,8 @@ found-requires c κs = search needs
 returns-2 : tie.Need-returns-2
 returns-2 c =
     c .found .ensures
-    ∙ block-found _ _ _ _ _ _ _ (c .before .before .before .before .before .before .before .before .before .before .before .before .before .before .before .before .pre .1 .1 .0) (c .before .before .before .before .before .before .before .before .before .before .before .before .before .before .before .lesser .ensures) (c .before .before .before .before .before .before .before .before .before .before .before .before .before .before .candidates .ensures .0) (c .before .before .before .before .before .before .before .before .before .before .before .before .before .candidates2 .ensures .0) (c .before .before .before .before .before .before .before .before .before .before .before .before .keys .ensures)
-    (c .before .before .before .before .before .before .before .before .before .before .before .keys2 .ensures) _ _ _ _ (c .before .before .before .before .before .before .before .before .limit-bar .ensures) (c .before .before .before .before .before .best-of .ensures) _ (omega arith) (c .before .place .ensures)
+    ∙ block-found _ _ _ _ _ _ _ (c .before .before .before .before .before .before .before .before .before .before .before .before .before .before .before .before .pre .1 .1 .0) (c .before .before .before .before .before .before .before .before .before .before .before .before .before .before .before .lesser .ensures) (c .before .before .before .before .before .before .before .before .before .before .before .before .before .before .candidates .ensures .0) (c .before .before .before .before .before .before .before .before .before .before .before .before .before .candidates2 .ensures .0) (c .before .before .before .before .before .before .before .before .before .before .before .before .table .ensures)
+    (c .before .before .before .before .before .before .before .before .before .before .before .table2 .ensures) _ _ _ _ (c .before .before .before .before .before .before .before .before .limit-bar .ensures) (c .before .before .before .before .before .best-of .ensures) _ (omega arith) (c .before .place .ensures)
 
 pub by-blocks-spec : {M : Type 1} → statement M
 by-blocks-spec =
@@ -75,9 +75,9 @@ by-blocks-spec =
     candidates-requires
     sub-candidates
     candidates-requires-2
-    keys-requires
-    sub-keys
-    keys-requires-2
+    table-requires
+    sub-table
+    table-requires-2
     limit-bar-requires
     best-of-requires
     candidates-requires-3

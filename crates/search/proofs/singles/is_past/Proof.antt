@@ -25,7 +25,7 @@ cast-result : tie.Need-cast-result
 cast-result c = search needs
 
 returns-3 : tie.Need-returns-3
-returns-3 c = record { yes = λ e. inr (subst (λ (x : ℕ). c .before .before .before .args .limit < x) (c .keys-below .ensures .0) (ltb-true _ _ e)); no = λ _. omega arith }
+returns-3 c = record { yes = λ e. inr (subst (λ (x : ℕ). c .before .before .before .before .args .limit < x) (c .keys-below .ensures .0) (ltb-true _ _ e)); no = λ _. omega arith }
 
 pub is-past-spec : {M : Type 1} → statement M
 is-past-spec =

@@ -1,5 +1,6 @@
 -- `search::singles::one_by_one` meets its contract. Assumes nothing.
 use mathlib.Core.Path.{_∙_, _≡_}
+use lib.Pow.{pow-mono}
 use Rattle.search.proofs.AnswerLaws.{numbered, single-found, single-nothing}
 use borrow.Author.Needs.{needs}
 use native.Mathlib.Omega.{arith}
@@ -9,12 +10,18 @@ use Rattle.search.proofs.singles.one_by_one.Tie as tie
 candidates-requires : tie.Need-candidates-requires
 candidates-requires c κs = search needs
 
-keys-requires : tie.Need-keys-requires
-keys-requires c κs = search needs
+slice-aggregate-write-keys : tie.Need-slice-aggregate-write-keys
+slice-aggregate-write-keys c = search needs
+
+write-keys-requires : tie.Need-write-keys-requires
+write-keys-requires c κs =
+    let m = pow-mono {i = c .before .before .args .count} {j = 3} (c .before .before .pre .0 .1) in
+    (omega arith, omega arith, omega arith)
 
 first-lane-requires : tie.Need-first-lane-requires
-first-lane-requires c κs = let p = c .before .before .before .pre in
-    ((p .0 .0, (p .0 .1, numbered _ _ _ (p .0 .1) (c .before .keys .ensures) _ (c .before .before .candidates .ensures .0))), p .1)
+first-lane-requires c κs =
+    let p = c .before .before .before .before .before .pre in
+    ((p .0 .0, (p .0 .1, numbered _ _ _ (p .0 .1) (c .before .before .write-keys .ensures .keys) _ (c .before .before .before .before .candidates .ensures .0))), p .1)
 
 sub-nothing : tie.Need-sub-nothing
 sub-nothing c = search needs
@@ -23,15 +30,20 @@ nothing-requires : tie.Need-nothing-requires
 nothing-requires c κs = search needs
 
 returns : tie.Need-returns
-returns c = let p = c .before .before .before .before .before .before .pre in
+returns c =
+    let p = c .before .before .before .before .before .before .before .before .pre in
     c .nothing .ensures
-    ∙ single-nothing _ _ _ (p .0 .1) (c .before .before .before .before .keys .ensures) _ _ _ _ (c .before .before .before .before .before .candidates .ensures .0)
-    (c .before .before .first-lane .ensures) (c .before .if1 .taken)
+    ∙ single-nothing _ _ _ (p .0 .1) (c .before .before .before .before .before .write-keys .ensures .keys) _ _ _ _ (c .before .before .before .before .before .before .before .candidates .ensures .0) (c .before .before .first-lane .ensures) (c .before .if1 .taken)
+
+slice-aggregate-keys-below : tie.Need-slice-aggregate-keys-below
+slice-aggregate-keys-below c = search needs
 
 keys-below-requires : tie.Need-keys-below-requires
 keys-below-requires c κs =
-    let p = c .before .before .before .before .before .before .pre in
-    numbered _ _ _ (p .0 .1) (c .before .before .before .before .keys .ensures) _ (c .before .before .before .before .before .candidates .ensures .0) .most
+    let p = c .before .before .before .before .before .before .before .before .pre in
+    let w = c .before .before .before .before .before .write-keys .ensures in
+    let most = numbered _ _ _ (p .0 .1) (w .keys) _ (c .before .before .before .before .before .before .before .candidates .ensures .0) .most in
+    (omega (arith, w .long), omega arith)
 
 cast-found : tie.Need-cast-found
 cast-found c = search needs
@@ -43,22 +55,24 @@ found-requires : tie.Need-found-requires
 found-requires c κs = search needs
 
 returns-2 : tie.Need-returns-2
-returns-2 c = let p = c .before .before .before .before .before .before .before .before .pre in
+returns-2 c =
+    let p = c .before .before .before .before .before .before .before .before .before .before .pre in
     c .found .ensures
-    ∙ single-found _ _ _ (p .0 .1) (c .before .before .before .before .before .before .keys .ensures) _ _ _ _
-    (c .before .before .before .before .before .before .before .candidates .ensures .0) (c .before .before .before .before .first-lane .ensures) _
-    (omega arith) (c .before .keys-below .ensures .0)
+    ∙ single-found _ _ _ (p .0 .1) (c .before .before .before .before .before .before .before .write-keys .ensures .keys) _ _ _ _ (c .before .before .before .before .before .before .before .before .before .candidates .ensures .0) (c .before .before .before .before .first-lane .ensures) _ (omega arith)
+    (c .before .keys-below .ensures .0)
 
 pub one-by-one-spec : {M : Type 1} → statement M
 one-by-one-spec =
     tie.close
     (tie.spec
     candidates-requires
-    keys-requires
+    slice-aggregate-write-keys
+    write-keys-requires
     first-lane-requires
     sub-nothing
     nothing-requires
     returns
+    slice-aggregate-keys-below
     keys-below-requires
     cast-found
     cast-found-2
