@@ -35,7 +35,7 @@ module _ (h p m s : List ℕ) (r P D : ℕ) (l : D < 2 ^ 16) (apart : disjoint P
   test = opensIn h p m s r P
 
   -- what a candidate asks for, and what it tries
-  asks : (n : ℕ) → switched 0 members (size D) n ≡ subsetOf D n
+  pub asks : (n : ℕ) → switched 0 members (size D) n ≡ subsetOf D n
   asks n =
       switching.theorems .put-in 0 members (size D) n (listed .each) (listed .different)
       (true-disjoint 0 (taken members (size D) n) (λ k a b. none-in-empty k a))
@@ -48,7 +48,7 @@ module _ (h p m s : List ℕ) (r P D : ℕ) (l : D < 2 ^ 16) (apart : disjoint P
       (true-disjoint P (taken members (size D) n) (λ k a b. disjoint-true P D apart k a (in-inside 16 D n k (subst (Member k) e b))))
       ∙ ap (λ (x : ℕ). union P x) e
 
-  same-test : (n : ℕ) → opensAt h p m s r P members (size D) n ≡ test (questionAt D n)
+  pub same-test : (n : ℕ) → opensAt h p m s r P members (size D) n ≡ test (questionAt D n)
   unfolding opensAt
   same-test n = ap (λ (x : ℕ). grants r (evaluated h p m s x)) (tries n)
 

@@ -14,7 +14,7 @@ use search::answer::Answer;
 use search::candidate::switched;
 use search::first;
 
-mod members;
+pub mod members;
 
 // The preferred set, or none that unlocks.
 pub enum Found {

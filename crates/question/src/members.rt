@@ -2,7 +2,7 @@
 ghost use Rattle.preference.specs.Subsets.{MembersOf};
 
 // Each as a set of its own, the lowest first.
-pub(crate) fn members_of(set: u16) -> [u16; 16]
+pub fn members_of(set: u16) -> [u16; 16]
     ensures { λ r. ⌜ MembersOf set r ⌝ }
 {
     let mut members = [0u16; 16];

@@ -1,0 +1,2 @@
+-- What the search's answer comes to.
+pub mod ReplyLaws

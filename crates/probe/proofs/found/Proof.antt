@@ -1,0 +1,64 @@
+-- `probe::found` meets its contract: the search tries the subsets of what may be asked. Assumes nothing.
+use mathlib.Core.Path.{_∙_, ap}
+use lib.Pow.{pow-pos}
+use native.Mathlib.Omega.{arith}
+use Rattle.atoms.specs.Sets.{size}
+use Rattle.search.specs.Types.{resultOf}
+use Rattle.question.proofs.AskedLaws.{counted, locked}
+use Rattle.probe.proofs.ReplyLaws.{replies-found, within-limit}
+use borrow.Author.Needs.{needs}
+use Rattle.probe.proofs.found.Statement.{statement}
+use Rattle.probe.proofs.found.Tie as tie
+
+members-of-requires : tie.Need-members-of-requires
+members-of-requires c κs = search needs
+
+credentials-requires : tie.Need-credentials-requires
+credentials-requires c κs = search needs
+
+count-requires : tie.Need-count-requires
+count-requires c κs = search needs
+
+cast-count : tie.Need-cast-count
+cast-count c = search needs
+
+first-requires : tie.Need-first-requires
+first-requires c κs =
+    let s = c .before .before .before .before in
+    let a = s .args in
+    let listed = c .before .before .before .members-of .ensures in
+    let sized = c .before .count .ensures ∙ ap size (c .before .before .credentials .ensures) in
+    let all = counted (a .heads .now) (a .positive .now) (a .negated .now) (a .starts .now) (a .request) (a .shown) (a .within) (s .fits .within .fits) (s .pre .0 .1 .1) _ listed _ sized in
+    let alone = locked (a .heads .now) (a .positive .now) (a .negated .now) (a .starts .now) (a .request) (a .shown) (a .within) (s .fits .within .fits) (s .pre .0 .1 .1) _ listed _ sized (s .pre .1) in
+    ((s .pre .0 .0, (s .pre .0 .1 .0, all)), alone)
+
+reply-requires : tie.Need-reply-requires
+reply-requires c κs =
+    let s = c .before .before .before .before .before .before in
+    let a = s .args in
+    let listed = c .before .before .before .before .before .members-of .ensures in
+    let sized = c .before .before .before .count .ensures ∙ ap size (c .before .before .before .before .credentials .ensures) in
+    let all = counted (a .heads .now) (a .positive .now) (a .negated .now) (a .starts .now) (a .request) (a .shown) (a .within) (s .fits .within .fits) (s .pre .0 .1 .1) _ listed _ sized in
+    let few = within-limit _ _ _ _ (pow-pos _) (resultOf (c .before .first .result)) (c .before .first .ensures) in
+    (all .0, omega (arith, s .fits .limit .fits))
+
+returns : tie.Need-returns
+returns c =
+    let s = c .before .before .before .before .before .before .before in
+    let a = s .args in
+    let listed = c .before .before .before .before .before .before .members-of .ensures in
+    let sized = c .before .before .before .before .count .ensures ∙ ap size (c .before .before .before .before .before .credentials .ensures) in
+    c .reply .ensures
+    ∙ replies-found (a .heads .now) (a .positive .now) (a .negated .now) (a .starts .now) (a .request) (a .shown) (a .within) (s .fits .within .fits) (s .pre .0 .1 .1) _ listed _ sized _ _ _ (c .before .before .first .ensures)
+
+pub found-spec : {M : Type 1} → statement M
+found-spec =
+    tie.close
+    (tie.spec
+    members-of-requires
+    credentials-requires
+    count-requires
+    cast-count
+    first-requires
+    reply-requires
+    returns)

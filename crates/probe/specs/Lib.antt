@@ -1,0 +1,2 @@
+-- What the search replies.
+pub mod Reply

@@ -1,0 +1,158 @@
+// The search with weights and a limit, for C.
+ghost use mathlib.Core.Path.{_≡_};
+ghost use mathlib.Core.Bool.{false, true};
+ghost use Prim.Native.Nat.{_<_, _^_, _≤_};
+ghost use Rattle.atoms.specs.Sets.{difference, disjoint};
+ghost use Rattle.records.specs.Records.{accessKind, rulesOf};
+ghost use Rattle.policy.specs.WrittenForm.{WellFormed};
+ghost use Rattle.evaluation.specs.Arrays.{Placed};
+ghost use Rattle.preference.specs.Candidates.{switched};
+ghost use Rattle.preference.specs.InArrays.{opensIn};
+ghost use Rattle.preference.specs.Order.{trials};
+ghost use Rattle.preference.specs.Question.{noQuestion};
+ghost use Rattle.search.specs.Types.{resultOf};
+ghost use Rattle.probe.specs.Reply.{acceptedReply, foundReply, resultReply, searchReply};
+use atoms::AtomSet;
+use atoms::FIRST_DERIVED;
+use atoms::LAST_DERIVED;
+use evaluation::layout::access_rules;
+use evaluation::levels::unlocks;
+use policy::Checked;
+use policy::check;
+use question::members::members_of;
+use search::answer::Answer;
+use search::candidate::switched;
+use search::first;
+
+// The shown set alone unlocks the request.
+const OPEN: u64 = 0;
+
+// The limit comes first.
+const SPENT: u64 = 2;
+
+// The policy, or the request.
+const REFUSED: u64 = 3;
+
+// The search over the subsets of `within` without the shown set. Weight j is that of member j of it, counted from the lowest.
+#[no_mangle]
+pub extern "C" fn probe_search(
+    policy: &[u8],
+    request: u16,
+    shown: u16,
+    within: u16,
+    weights: &[u8; 16],
+    limit: u32,
+) -> u64
+    ensures answer { λ r. ⌜ r ≡ searchReply (now (policy .entry)) request shown within (now (weights .entry)) limit ⌝ }
+    ensures unchanged { λ _. ⌜ (now (policy .exit) ≡ now (policy .entry)) × (now (weights .exit) ≡ now (weights .entry)) ⌝ }
+{
+    let checked = check(policy);
+    let Checked::Accepted = checked else {
+        return REFUSED;
+    };
+    if request < FIRST_DERIVED as u16 {
+        return REFUSED;
+    }
+    if request > LAST_DERIVED as u16 {
+        return REFUSED;
+    }
+    let service = request as u8;
+    let rest = without(within, shown);
+    accepted(policy, service, shown, rest, weights, limit)
+}
+
+// Under an accepted policy. Nothing of what may be asked is shown.
+fn accepted(
+    policy: &[u8],
+    request: u8,
+    shown: u16,
+    within: u16,
+    weights: &[u8; 16],
+    limit: u32,
+) -> u64
+    requires { ⌜ WellFormed (now policy) × ((request ≤ 63) × (disjoint shown within ≡ true)) ⌝ }
+    ensures { λ r.
+        ⌜ r ≡ acceptedReply (rulesOf accessKind (now (policy .entry))) request shown within (now (weights .entry)) limit ⌝ }
+{
+    let rules = access_rules(policy);
+    let credentials = AtomSet::credentials(shown);
+    if unlocks(
+        &rules.heads,
+        &rules.positive,
+        &rules.negated,
+        &rules.starts,
+        request,
+        credentials,
+    ) {
+        return OPEN;
+    }
+    found(
+        &rules.heads,
+        &rules.positive,
+        &rules.negated,
+        &rules.starts,
+        request,
+        shown,
+        within,
+        weights,
+        limit,
+    )
+}
+
+// By rules in arrays. The shown set alone does not unlock the request.
+fn found<'a>(
+    heads: &'a [u64; 128],
+    positive: &'a [u64; 128],
+    negated: &'a [u64; 128],
+    starts: &'a [usize; 10],
+    request: u8,
+    shown: u16,
+    within: u16,
+    weights: &'a [u8; 16],
+    limit: u32,
+) -> u64
+    requires { ⌜ (Placed (now heads) (now starts) × ((request ≤ 63) × (disjoint shown within ≡ true)))
+        × (opensIn (now heads) (now positive) (now negated) (now starts) request shown noQuestion ≡ false) ⌝ }
+    ensures { λ r.
+        ⌜ r ≡ foundReply (opensIn (now (heads .entry)) (now (positive .entry)) (now (negated .entry)) (now (starts .entry)) request shown)
+        within (now (weights .entry)) limit ⌝ }
+{
+    let members = members_of(within);
+    let count = AtomSet::credentials(within).count() as usize;
+    let most = limit as usize;
+    let answer = first(
+        heads,
+        positive,
+        negated,
+        starts,
+        request,
+        shown,
+        &members,
+        count,
+        weights,
+        most,
+    );
+    reply(answer, &members, count)
+}
+
+// The search's answer as a number: the place from bit 8, and the asked set from bit 32.
+fn reply(answer: Answer, members: &[u16; 16], count: usize) -> u64
+    requires { ⌜ (count ≤ 16) × (trials (resultOf answer) < 2 ^ 32) ⌝ }
+    ensures { λ r. ⌜ r ≡ resultReply (switched 0 (now (members .entry)) count) (resultOf answer) ⌝ }
+{
+    match answer {
+        Answer::Found { candidate, place } => {
+            let asked = switched(0, members, count, candidate);
+            256 * (place as u64) + 4294967296 * (asked as u64)
+        }
+        Answer::Nothing { tried } => 1 + 256 * (tried as u64),
+        Answer::Spent => SPENT,
+    }
+}
+
+// The credentials of a set that are not in another.
+fn without(set: u16, other: u16) -> u16
+    ensures { λ r. ⌜ r ≡ difference set other ⌝ }
+{
+    set - (set & other)
+}
