@@ -14,6 +14,8 @@ pub mod options;
 pub mod plain;
 pub mod play;
 pub mod policies;
+pub mod question_counts;
+pub mod questions;
 pub mod random;
 pub mod replay;
 pub mod report;
