@@ -1,5 +1,6 @@
 //! What came up in a run: cases by kind, replies, lists.
 
+use crate::bench_counts::BenchCounts;
 use crate::calls::{ending_of, refusal_of, Call, DENY, GRANT};
 use crate::question_counts::QuestionCounts;
 
@@ -75,7 +76,7 @@ pub struct Counts {
     pub definition: u64,
     pub all_stable_sets: u64,
     pub tuned: u64,
-    pub bench_runs: u64,
+    pub bench: BenchCounts,
     pub disagreements: u64,
     /// The case with the first disagreement; 0 where there is none.
     pub first_disagreement: u64,
@@ -134,7 +135,7 @@ impl Counts {
         self.definition += other.definition;
         self.all_stable_sets += other.all_stable_sets;
         self.tuned += other.tuned;
-        self.bench_runs += other.bench_runs;
+        self.bench.add(&other.bench);
         self.disagreements += other.disagreements;
     }
 
@@ -162,6 +163,7 @@ impl Counts {
         }
         need(self.licensed_at_bound_lacking, "bound 2 + u".to_string());
         missing.extend(self.questions.missing());
+        missing.extend(self.bench.missing());
         missing
     }
 
@@ -183,7 +185,7 @@ impl Counts {
         println!("  by the definition: {}", self.definition);
         println!("  by all stable sets tried: {}", self.all_stable_sets);
         println!("  by the tuned version: {}", self.tuned);
-        println!("\nruns of the bench program: {}", self.bench_runs);
+        self.bench.print();
     }
 
     fn print_lists(&self) {

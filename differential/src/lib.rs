@@ -1,5 +1,6 @@
 //! Differential tests and a benchmark of the station gate, against document 01 in plain Rust.
 
+pub mod bench_counts;
 pub mod bench_runs;
 pub mod calls;
 pub mod clients;

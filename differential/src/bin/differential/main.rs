@@ -55,9 +55,8 @@ fn test_and_bench(shared: &Shared, options: &Options, thread: u64) -> Result<Cou
     let mut counts = test(shared, options, thread);
     let first = options.bench_runs * thread / options.threads;
     let share = options.bench_runs * (thread + 1) / options.threads - first;
-    let (runs, disagreed) = bench_runs(shared, options.seed, thread, share)?;
-    counts.bench_runs = runs;
-    counts.disagreements += disagreed;
+    counts.bench = bench_runs(shared, options.seed, thread, share)?;
+    counts.disagreements += counts.bench.disagreed;
     Ok(counts)
 }
 
@@ -137,6 +136,19 @@ fn test_marked(options: &Options) -> Result<(), String> {
     Ok(())
 }
 
+/// Says what should have come up and did not; a short run need not have brought up everything.
+fn covered(total: &Counts) -> bool {
+    let missing = total.missing();
+    if total.cases() < ENOUGH_FOR_COVERAGE {
+        println!("\na short run: {} things did not come up", missing.len());
+        return true;
+    }
+    for what in &missing {
+        println!("did not come up: {what}");
+    }
+    missing.is_empty()
+}
+
 fn test_gate(options: &Options) -> Result<bool, String> {
     let start = Instant::now();
     if options.slip == 0 {
@@ -147,10 +159,7 @@ fn test_gate(options: &Options) -> Result<bool, String> {
     let seconds = start.elapsed().as_secs_f64();
     println!("seed {}, threads {}", options.seed, options.threads);
     total.print();
-    let missing = total.missing();
-    for what in &missing {
-        println!("did not come up: {what}");
-    }
+    let covered = covered(&total);
     let rate = total.cases() as f64 / seconds;
     println!("\n{seconds:.1} s, {rate:.0} cases a second");
     println!(
@@ -158,7 +167,6 @@ fn test_gate(options: &Options) -> Result<bool, String> {
         total.cases(),
         total.disagreements
     );
-    let covered = missing.is_empty() || total.cases() < ENOUGH_FOR_COVERAGE;
     Ok(total.disagreements == 0 && covered)
 }
 
