@@ -3,6 +3,7 @@
 use crate::bench_counts::BenchCounts;
 use crate::calls::{ending_of, refusal_of, Call, DENY, GRANT};
 use crate::question_counts::QuestionCounts;
+use crate::weighted::counts::WeightedCounts;
 
 /// What a case was made as.
 #[derive(Clone, Copy, PartialEq, Eq, Debug)]
@@ -77,6 +78,7 @@ pub struct Counts {
     pub all_stable_sets: u64,
     pub tuned: u64,
     pub bench: BenchCounts,
+    pub weighted: WeightedCounts,
     pub disagreements: u64,
     /// The case with the first disagreement; 0 where there is none.
     pub first_disagreement: u64,
@@ -136,6 +138,7 @@ impl Counts {
         self.all_stable_sets += other.all_stable_sets;
         self.tuned += other.tuned;
         self.bench.add(&other.bench);
+        self.weighted.add(&other.weighted);
         self.disagreements += other.disagreements;
     }
 
@@ -164,6 +167,7 @@ impl Counts {
         need(self.licensed_at_bound_lacking, "bound 2 + u".to_string());
         missing.extend(self.questions.missing());
         missing.extend(self.bench.missing());
+        missing.extend(self.weighted.missing());
         missing
     }
 
@@ -186,6 +190,7 @@ impl Counts {
         println!("  by all stable sets tried: {}", self.all_stable_sets);
         println!("  by the tuned version: {}", self.tuned);
         self.bench.print();
+        self.weighted.print();
     }
 
     fn print_lists(&self) {

@@ -26,3 +26,4 @@ pub mod slips;
 pub mod stack;
 pub mod tester;
 pub mod tuned;
+pub mod weighted;

@@ -37,6 +37,23 @@ fn sides(random: &mut Random, members: usize) -> Sides {
     }
 }
 
+/// A policy under which sets of these sizes, of so many credentials, unlock a service: its bytes, the service, those credentials,
+/// and what is shown.
+pub fn made_policy(
+    random: &mut Random,
+    members: usize,
+    sizes: &[usize],
+) -> (Vec<u8>, u16, u16, u16) {
+    let sides = sides(random, members);
+    let service = random.range(LEAST_SERVICE, 62) as u8;
+    let lone = |size: &usize| wanted(random, Shape::Lone, members, *size)[0];
+    let numbers: Vec<u16> = sizes.iter().map(lone).collect();
+    let sets: Vec<u16> = numbers.iter().map(|n| subset(*n, sides.may_ask)).collect();
+    let records = records(random, &sides, service, &sets);
+    let bytes = policies::encode(&records);
+    (bytes, service.into(), sides.may_ask, sides.shown)
+}
+
 /// A session and what is shown in the round, so that after it the sides are as wanted.
 fn session(random: &mut Random, sides: &Sides, service: u16) -> Option<(Session, u16)> {
     let outside = sides.shown | sides.declined;

@@ -7,6 +7,8 @@ use differential::report::Shared;
 use differential::scenarios::scenario;
 use differential::slips::{Slip, Slipped, CONTROLS, SLIPS};
 use differential::tester::Tester;
+use differential::weighted::runs::found_out;
+use differential::weighted::slips::{Slip as SearchSlip, SLIPS as SEARCH_SLIPS};
 use std::sync::atomic::{AtomicUsize, Ordering};
 use std::sync::Mutex;
 use std::thread;
@@ -66,7 +68,24 @@ pub fn test_slips(options: &Options) -> Result<bool, String> {
     });
     let results = results.into_inner().map_err(|_| "a thread stopped")?;
     let (controls, slips) = results.split_at(CONTROLS.len());
-    Ok(print_slips(options, controls, slips))
+    let all_found = print_slips(options, controls, slips);
+    Ok(test_searches(options) && all_found)
+}
+
+/// The same of searches by weights.
+fn test_searches(options: &Options) -> bool {
+    let most = options.searches;
+    println!("\nthe search by weights, of {most} at most, in which each slip is found out\n");
+    let find = |slip| found_out(options.seed, slip, most);
+    let mut all = true;
+    for (place, (slip, text)) in SEARCH_SLIPS.iter().enumerate() {
+        let found = find(*slip);
+        println!("{:>8}  slip {}: {text}", show(found), place + 1);
+        all &= found.is_some();
+    }
+    let control = find(SearchSlip::None);
+    println!("{:>8}  no slip", show(control));
+    all && control.is_none()
 }
 
 fn show(case: Option<u64>) -> String {
