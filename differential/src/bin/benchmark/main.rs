@@ -7,6 +7,7 @@ mod items;
 mod program;
 #[cfg(probe)]
 mod searches;
+mod solver;
 mod tables;
 mod timing;
 

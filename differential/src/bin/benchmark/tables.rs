@@ -13,24 +13,30 @@ pub fn time(seconds: f64) -> String {
     format!("{number:.digits$} {unit}")
 }
 
+/// A ratio with two digits after the point, or three where it is small.
+fn ratio(number: f64) -> String {
+    let digits = if number < 0.095 { 3 } else { 2 };
+    format!("{number:.digits$}")
+}
+
 /// Medians and ratios of the last run.
 pub fn medians(times: &[Times]) {
     println!("\nMedians:\n");
     println!("| | gate | plain | tuned | gate/plain | gate/tuned |");
     println!("|---|---:|---:|---:|---:|---:|");
     for item in times {
-        let [plain, tuned] = item.ratios;
         let times = item.median.map(time).join(" | ");
-        println!("| {} | {times} | {plain:.2} | {tuned:.2} |", item.name);
+        let ratios = item.ratios.map(ratio).join(" | ");
+        println!("| {} | {times} | {ratios} |", item.name);
     }
 }
 
 /// The least and the largest of a ratio over all runs.
-fn range(runs: &[Vec<Times>], row: usize, ratio: usize) -> String {
-    let all = || runs.iter().map(|times| times[row].ratios[ratio]);
+fn range(runs: &[Vec<Times>], row: usize, which: usize) -> String {
+    let all = || runs.iter().map(|times| times[row].ratios[which]);
     let least = all().fold(f64::MAX, f64::min);
     let most = all().fold(0.0, f64::max);
-    format!("{least:.2} to {most:.2}")
+    format!("{} to {}", ratio(least), ratio(most))
 }
 
 /// The range of both ratios over all runs, and the minima of the last.
