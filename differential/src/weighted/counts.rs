@@ -26,6 +26,9 @@ pub const CLASSES: [&str; 15] = [
 /// Sets as light are looked for among so many candidates.
 const FEW: usize = 1 << 9;
 
+/// So many searches must have every class among them.
+const ENOUGH: u64 = 10_000;
+
 #[derive(Clone, Default)]
 pub struct WeightedCounts {
     pub searches: u64,
@@ -103,8 +106,11 @@ impl WeightedCounts {
         }
     }
 
-    /// What should have come up and did not.
+    /// What should have come up and did not, in a run with enough of them.
     pub fn missing(&self) -> Vec<String> {
+        if self.searches < ENOUGH {
+            return Vec::new();
+        }
         let all = CLASSES.iter().zip(self.classes);
         all.filter(|(_, count)| *count == 0)
             .map(|(name, _)| format!("searches by weights: {name}"))
