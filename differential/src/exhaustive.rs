@@ -6,7 +6,7 @@ use crate::counts::Kind;
 use crate::marked::policy_a;
 use crate::plain::policy::Record;
 use crate::policies::{access, disclosure, encode};
-use crate::questions::every_size;
+use crate::questions::{every_block, every_size};
 use crate::tester::Tester;
 
 fn check(tester: &mut Tester, policy: Vec<u8>) {
@@ -93,4 +93,5 @@ pub fn exhaustive(tester: &mut Tester) {
     requests(tester);
     sessions(tester);
     every_size(tester);
+    every_block(tester);
 }

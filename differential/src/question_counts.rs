@@ -7,6 +7,9 @@ use crate::questions::classes::CLASSES;
 pub struct QuestionCounts {
     sizes: [[u64; 17]; 17],
     classes: [u64; 12],
+    /// By block of 256 candidates, and by place within a block.
+    blocks: [u64; 256],
+    lanes: [u64; 256],
 }
 
 impl Default for QuestionCounts {
@@ -14,6 +17,8 @@ impl Default for QuestionCounts {
         QuestionCounts {
             sizes: [[0; 17]; 17],
             classes: [0; 12],
+            blocks: [0; 256],
+            lanes: [0; 256],
         }
     }
 }
@@ -26,16 +31,19 @@ impl QuestionCounts {
         self.sizes[may_ask.count_ones() as usize][asked.count_ones() as usize] += 1;
     }
 
-    pub fn classified(&mut self, classes: [bool; 12]) {
+    pub fn classified(&mut self, number: u16, classes: [bool; 12]) {
+        self.blocks[usize::from(number >> 8)] += 1;
+        self.lanes[usize::from(number & 0xff)] += 1;
         for (count, found) in self.classes.iter_mut().zip(classes) {
             *count += u64::from(found);
         }
     }
 
     pub fn add(&mut self, other: &QuestionCounts) {
+        let sizes = self.sizes.iter_mut().flatten().chain(&mut self.classes);
+        let own = sizes.chain(&mut self.blocks).chain(&mut self.lanes);
         let more = other.sizes.iter().flatten().chain(&other.classes);
-        let own = self.sizes.iter_mut().flatten().chain(&mut self.classes);
-        for (a, b) in own.zip(more) {
+        for (a, b) in own.zip(more.chain(&other.blocks).chain(&other.lanes)) {
             *a += b;
         }
     }
@@ -51,6 +59,13 @@ impl QuestionCounts {
         for (name, count) in CLASSES.iter().zip(self.classes) {
             if count == 0 {
                 missing.push(format!("questions: {name}"));
+            }
+        }
+        for (place, counts) in self.blocks.iter().zip(&self.lanes).enumerate() {
+            if *counts.0 == 0 || *counts.1 == 0 {
+                missing.push(format!(
+                    "questions in block {place} and at place {place} of one"
+                ));
             }
         }
         missing
@@ -69,7 +84,13 @@ impl QuestionCounts {
             };
             println!("  D has {range}: {}", cells.join(" "));
         }
-        println!("\nquestions of rounds made for their size");
+        let found = |counts: &[u64]| counts.iter().filter(|count| **count > 0).count();
+        println!("\nquestions of rounds made for their size or place");
+        println!(
+            "  in {} of 256 blocks of 256 candidates, at {} of 256 places within one",
+            found(&self.blocks),
+            found(&self.lanes)
+        );
         for (name, count) in CLASSES.iter().zip(self.classes) {
             println!("  {count:>10}  {name}");
         }

@@ -15,7 +15,7 @@ use crate::random::Random;
 use crate::scenarios::still_sound;
 use crate::tester::Tester;
 use classes::{classes, Round};
-use numbers::subset;
+use numbers::{number, subset};
 use rules::{records, Sides, LEAST_SERVICE};
 use shapes::{wanted, Shape, SHAPES};
 
@@ -84,14 +84,16 @@ fn count_classes(tester: &mut Tester, memory: Memory) {
         return;
     };
     let (shown, declined) = (session.shown, session.declined);
+    let may_ask = disclosable(&rules.disclosure, shown) & !shown & !declined;
     let found = classes(&Round {
         access: &rules.access,
         service: session.request,
         shown,
-        may_ask: disclosable(&rules.disclosure, shown) & !shown & !declined,
+        may_ask,
         asked,
     });
-    tester.counts.questions.classified(found);
+    let number = number(asked, may_ask);
+    tester.counts.questions.classified(number, found);
 }
 
 /// One round, its question counted; the question and the memory after it, where there is one and the versions agree.
@@ -105,12 +107,11 @@ fn round(tester: &mut Tester, p: u16, memory: Memory) -> Option<(u16, Memory)> {
     Some((asked_of(reply), after))
 }
 
-/// A policy and a session made for the round, and the round.
-fn made(tester: &mut Tester, shape: Shape, members: usize, size: usize) -> Option<(u16, Memory)> {
+/// A policy under which the sets of these numbers unlock, a session made for the round, and the round.
+fn made(tester: &mut Tester, members: usize, numbers: &[u16]) -> Option<(u16, Memory)> {
     let random = &mut tester.random;
     let sides = sides(random, members);
     let service = random.range(LEAST_SERVICE, 62) as u8;
-    let numbers = wanted(random, shape, members, size);
     let sets: Vec<u16> = numbers.iter().map(|n| subset(*n, sides.may_ask)).collect();
     let records = records(random, &sides, service, &sets);
     let (session, p) = session(random, &sides, service.into())?;
@@ -127,7 +128,8 @@ pub fn questions(tester: &mut Tester) {
         _ => tester.random.range(1, members),
     };
     let shape = tester.random.pick(&SHAPES);
-    let mut last = made(tester, shape, members, size);
+    let numbers = wanted(&mut tester.random, shape, members, size);
+    let mut last = made(tester, members, &numbers);
     while let Some((asked, memory)) = last {
         if tester.random.one_in(2) {
             return;
@@ -142,8 +144,21 @@ pub fn every_size(tester: &mut Tester) {
     for members in 1..=16 {
         for size in 1..=members {
             for shape in SHAPES {
-                made(tester, shape, members, size);
+                let numbers = wanted(&mut tester.random, shape, members, size);
+                made(tester, members, &numbers);
             }
         }
+    }
+}
+
+/// A question in every block of 256 candidates, and at every place within a block.
+pub fn every_block(tester: &mut Tester) {
+    for block in 0..=255u16 {
+        let lane = tester.random.range(1, 255) as u16;
+        made(tester, 16, &[block << 8 | lane]);
+        let members = tester.random.range(8, 12);
+        let other = tester.random.below(1 << (members - 8)) as u16;
+        made(tester, members, &[other << 8 | block]);
+        made(tester, 9, &[1 << 8 | block]);
     }
 }
