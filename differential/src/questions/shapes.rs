@@ -72,7 +72,7 @@ fn across(random: &mut Random, members: usize, size: usize) -> Vec<u16> {
 
 /// High members alone, without the highest, beside the highest with low ones.
 fn cheapest(random: &mut Random, members: usize, size: usize) -> Vec<u16> {
-    if size < 2 || size > 9 || members < size + 9 {
+    if !(2..=9).contains(&size) || members < size + 9 {
         return across(random, members, size);
     }
     let first = ones(random, size, 8, members - 1);

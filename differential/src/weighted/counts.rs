@@ -4,8 +4,9 @@ use super::plain::{answer, candidates, weight};
 use super::{Answer, Search};
 use crate::plain::model::unlocks;
 use crate::plain::policy::check;
+use crate::questions::numbers::number;
 
-pub const CLASSES: [&str; 15] = [
+pub const CLASSES: [&str; 17] = [
     "found",
     "nothing, all tried",
     "spent",
@@ -21,6 +22,8 @@ pub const CLASSES: [&str; 15] = [
     "found, with a credential of weight 0",
     "found, past the first 256 candidates",
     "found, its weight above 255",
+    "found, in a block that is not the first",
+    "found, not as small as can be",
 ];
 
 /// Sets as light are looked for among so many candidates.
@@ -32,7 +35,7 @@ const ENOUGH: u64 = 10_000;
 #[derive(Clone, Default)]
 pub struct WeightedCounts {
     pub searches: u64,
-    classes: [u64; 15],
+    classes: [u64; 17],
     pub disagreed: u64,
 }
 
@@ -56,17 +59,24 @@ fn ties(policy: &[u8], search: &Search, set: u16) -> [bool; 2] {
 }
 
 /// What is to be told of a set found.
-fn found(policy: &[u8], search: &Search, trials: u32, set: u16) -> [bool; 6] {
+fn found(policy: &[u8], search: &Search, trials: u32, set: u16) -> [bool; 8] {
     let equal = Search {
         weights: [1; 16],
         limit: u32::MAX,
         ..*search
     };
-    let other = !matches!(answer(policy, &equal), Answer::Found { set: same, .. } if same == set);
+    let smallest = match answer(policy, &equal) {
+        Answer::Found { set, .. } => set,
+        _ => 0,
+    };
+    let other = smallest != set;
+    let larger = smallest.count_ones() < set.count_ones();
     let [light, small] = ties(policy, search, set);
     let free = (0..16).any(|k| set >> k & 1 == 1 && search.weights[k] == 0);
     let heavy = weight(&search.weights, set) > 255;
-    [other, light, small, free, trials > 256, heavy]
+    let later = number(set, search.within & !search.shown) > 255;
+    let past = trials > 256;
+    [other, light, small, free, past, heavy, later, larger]
 }
 
 impl WeightedCounts {
@@ -75,7 +85,7 @@ impl WeightedCounts {
         let limit = search.limit.saturating_add(1);
         let more = answer(policy, &Search { limit, ..*search });
         let spent = given == Answer::Spent;
-        let mut is = [false; 15];
+        let mut is = [false; 17];
         match given {
             Answer::Found { trials: 0, .. } => is[4] = true,
             Answer::Found { trials, set } => {

@@ -116,7 +116,8 @@ impl Slip {
         let (Ok(rules), request) = (check(policy), search.request) else {
             return Answer::Refused;
         };
-        if !is_service(request) && !(self == Slip::RequestUntested && request == 63) {
+        let untested = self == Slip::RequestUntested && request == 63;
+        if !is_service(request) && !untested {
             return Answer::Refused;
         }
         let opens = |set: u16| unlocks(&rules.access, request, search.shown | set);
