@@ -1,7 +1,7 @@
 //! Which runs of the bench program came up.
 
 /// So many runs must have every number of rounds among them.
-const ENOUGH: u64 = 500;
+const ENOUGH: u64 = 1000;
 
 /// Runs by what they print.
 #[derive(Clone, Default)]

@@ -54,7 +54,7 @@ fn singles(random: &mut Random) -> Vec<Record> {
 pub fn long(random: &mut Random) -> (Vec<Record>, u16) {
     match random.below(4) {
         0 => (longest(random.below(17) as u8), 16),
-        1 => (longest(16), 16),
+        1 => (longest(random.range(13, 16) as u8), 16),
         2 => (singles(random), SERVICE.into()),
         _ => (many_ways(random), SERVICE.into()),
     }
