@@ -13,8 +13,4 @@ fn main() {
     for library in ["libcapi.a", "libprobe.a"] {
         println!("cargo:rerun-if-changed={}", folder.join(library).display());
     }
-    println!("cargo:rustc-check-cfg=cfg(probe)");
-    if folder.join("libprobe.a").exists() {
-        println!("cargo:rustc-cfg=probe");
-    }
 }

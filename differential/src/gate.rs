@@ -1,7 +1,6 @@
 //! The gate itself, through its C interface. The only file with unsafe code.
 
 use crate::calls::{Call, Memory, Version, PLACE};
-#[cfg(probe)]
 use crate::weighted::Search;
 
 #[link(name = "capi", kind = "static")]
@@ -13,7 +12,6 @@ extern "C" {
     fn gate_round(policy: *const u8, length: usize, session: *mut u8, shown: u16) -> u32;
 }
 
-#[cfg(probe)]
 #[link(name = "probe", kind = "static")]
 extern "C" {
     fn probe_search(
@@ -104,7 +102,6 @@ pub fn round(policy: &[u8], session: &mut [u8; 10], shown: u16) -> u32 {
 }
 
 /// A search by weights against a limit: the reply.
-#[cfg(probe)]
 pub fn search(policy: &[u8], search: &Search) -> u64 {
     // SAFETY: the policy's pointer is valid for its length, and that to the weights for sixteen bytes.
     unsafe {

@@ -14,10 +14,7 @@ fn tuned(policy: &[u8], search: &Search) -> u64 {
     number(tuned::answer(policy, search))
 }
 
-#[cfg(probe)]
 const VERSIONS: [Version; 2] = [("gate", crate::gate::search), ("tuned", tuned)];
-#[cfg(not(probe))]
-const VERSIONS: [Version; 1] = [("tuned", tuned)];
 
 fn report(shared: &Shared, name: &str, policy: &[u8], search: &Search, replies: [u64; 2]) {
     let [wanted, reply] = replies;

@@ -51,7 +51,6 @@ fn question_row(what: &str, input: &Input) -> Option<Row> {
 }
 
 /// The preferred set by sixteen weights, without a limit.
-#[cfg(probe)]
 fn weighted_row(input: &Input) -> Option<Row> {
     use crate::searches::{search, weights};
     let policy = input.policy.clone();
@@ -74,9 +73,7 @@ fn rows(inputs: &Inputs) -> Vec<Row> {
     rows.extend(first.filter_map(|input| question_row("first round", input)));
     let worst = inputs.full.iter();
     rows.extend(worst.filter_map(|input| question_row("worst round", input)));
-    #[cfg(probe)]
     rows.extend(inputs.full.iter().filter_map(weighted_row));
-    #[cfg(probe)]
     rows.extend(inputs.asking.iter().filter_map(weighted_row));
     rows
 }

@@ -93,15 +93,9 @@ fn depths(input: &Input) -> [Option<usize>; 4] {
 }
 
 /// The deepest stack of a search by weights.
-#[cfg(probe)]
 fn search_depth(input: &Input) -> Option<usize> {
     let (policy, search) = (input.policy.clone(), crate::searches::search(input, 65_535));
     stack::depth(move || gate::search(&policy, &search))
-}
-
-#[cfg(not(probe))]
-fn search_depth(_: &Input) -> Option<usize> {
-    None
 }
 
 pub fn print_stack(inputs: &Inputs) {

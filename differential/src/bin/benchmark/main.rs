@@ -5,7 +5,6 @@ mod effort;
 mod inputs;
 mod items;
 mod program;
-#[cfg(probe)]
 mod searches;
 mod solver;
 mod tables;
@@ -51,9 +50,7 @@ fn processor() -> String {
 
 /// All items that have the word in their name, once.
 fn measured(inputs: &Inputs, word: &str) -> Result<Vec<Times>, String> {
-    #[allow(unused_mut)]
     let mut items = items::items(inputs);
-    #[cfg(probe)]
     items.extend(searches::items(inputs));
     let mut times = Vec::new();
     for item in items.iter().filter(|item| item.name.contains(word)) {
@@ -74,8 +71,6 @@ fn run() -> Result<(), String> {
     let last = &runs[runs.len() - 1];
     tables::medians(last);
     tables::ranges(&runs);
-    #[cfg(not(probe))]
-    println!("\nlibprobe.a is not there: the rows with sixteen weights are left out.");
     clingo::print(&inputs, &options.word)?;
     effort::print_tests(&inputs, last);
     effort::print_stack(&inputs);
