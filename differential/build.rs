@@ -1,4 +1,4 @@
-//! Says where the gate's library stands: GATE_LIBRARY, or target/staticlib of the repository.
+//! Says where the gate's libraries stand: GATE_LIBRARY, or target/staticlib of the repository.
 
 use std::path::PathBuf;
 
@@ -10,8 +10,7 @@ fn main() {
     };
     println!("cargo:rustc-link-search=native={}", folder.display());
     println!("cargo:rerun-if-env-changed=GATE_LIBRARY");
-    println!(
-        "cargo:rerun-if-changed={}",
-        folder.join("libcapi.a").display()
-    );
+    for library in ["libcapi.a", "libprobe.a"] {
+        println!("cargo:rerun-if-changed={}", folder.join(library).display());
+    }
 }

@@ -1,6 +1,9 @@
 //! What came up in a run: cases by kind, replies, lists.
 
-use crate::calls::{asked_of, ending_of, refusal_of, Call, ASK, DENY, GRANT};
+use crate::bench_counts::BenchCounts;
+use crate::calls::{ending_of, refusal_of, Call, DENY, GRANT};
+use crate::question_counts::QuestionCounts;
+use crate::weighted::counts::WeightedCounts;
 
 /// What a case was made as.
 #[derive(Clone, Copy, PartialEq, Eq, Debug)]
@@ -18,6 +21,7 @@ pub enum Kind {
     RoundAnyBytes,
     RoundNoSession,
     RoundDamaged,
+    RoundQuestion,
     ListOpening,
     ListClient,
     ListCooperative,
@@ -25,7 +29,7 @@ pub enum Kind {
     Exhaustive,
 }
 
-pub const KINDS: [&str; 18] = [
+pub const KINDS: [&str; 19] = [
     "check, policy of the written form",
     "check, policy at a boundary",
     "check, damaged policy",
@@ -39,6 +43,7 @@ pub const KINDS: [&str; 18] = [
     "round, ten random bytes",
     "round, bytes that are no session",
     "round, damaged policy",
+    "round, made for its question",
     "opening of a list",
     "round of a list, any client",
     "round of a list, cooperative client",
@@ -49,7 +54,7 @@ pub const KINDS: [&str; 18] = [
 /// Counters, each of one thread; `add` joins them.
 #[derive(Clone, Default)]
 pub struct Counts {
-    pub kinds: [u64; 18],
+    pub kinds: [u64; 19],
     /// Replies of gate_check by refusal number, 0 accepted.
     pub policies: [u64; 7],
     /// Replies of gate_open: fresh sessions, refusals 7.
@@ -58,8 +63,7 @@ pub struct Counts {
     pub refusals: [u64; 10],
     pub grants: u64,
     pub denies: u64,
-    /// Questions by size.
-    pub asked: [u64; 17],
+    pub questions: QuestionCounts,
     /// Lists under one policy, by accepted rounds when closed; 0 where the list ended open.
     pub lists: [u64; 18],
     pub lists_at_d_plus_1: u64,
@@ -73,7 +77,8 @@ pub struct Counts {
     pub definition: u64,
     pub all_stable_sets: u64,
     pub tuned: u64,
-    pub bench_runs: u64,
+    pub bench: BenchCounts,
+    pub weighted: WeightedCounts,
     pub disagreements: u64,
     /// The case with the first disagreement; 0 where there is none.
     pub first_disagreement: u64,
@@ -109,7 +114,6 @@ impl Counts {
             _ if number != 0 => {}
             GRANT => self.grants += 1,
             DENY => self.denies += 1,
-            ASK => self.asked[asked_of(reply).count_ones() as usize] += 1,
             _ => {}
         }
     }
@@ -119,7 +123,7 @@ impl Counts {
         add_all(&mut self.policies, &other.policies);
         add_all(&mut self.openings, &other.openings);
         add_all(&mut self.refusals, &other.refusals);
-        add_all(&mut self.asked, &other.asked);
+        self.questions.add(&other.questions);
         add_all(&mut self.lists, &other.lists);
         self.grants += other.grants;
         self.denies += other.denies;
@@ -133,7 +137,8 @@ impl Counts {
         self.definition += other.definition;
         self.all_stable_sets += other.all_stable_sets;
         self.tuned += other.tuned;
-        self.bench_runs += other.bench_runs;
+        self.bench.add(&other.bench);
+        self.weighted.add(&other.weighted);
         self.disagreements += other.disagreements;
     }
 
@@ -154,13 +159,15 @@ impl Counts {
         for (number, count) in self.refusals.iter().enumerate() {
             need(*count, format!("gate_round: refusal {number}"));
         }
-        for (size, count) in self.asked.iter().enumerate().skip(1).take(4) {
-            need(*count, format!("questions of size {size}"));
-        }
         need(self.grants, "grants".to_string());
         need(self.denies, "denies".to_string());
-        need(self.lists[17], "lists of 17 rounds".to_string());
+        for (rounds, count) in self.lists.iter().enumerate() {
+            need(*count, format!("lists of {rounds} rounds, 0 left open"));
+        }
         need(self.licensed_at_bound_lacking, "bound 2 + u".to_string());
+        missing.extend(self.questions.missing());
+        missing.extend(self.bench.missing());
+        missing.extend(self.weighted.missing());
         missing
     }
 
@@ -176,13 +183,14 @@ impl Counts {
         row("rounds by refusal, 0 accepted", &self.refusals, 0);
         println!("  rounds ended in grant: {}", self.grants);
         println!("  rounds ended in deny: {}", self.denies);
-        row("questions by size, from 1", &self.asked[1..], 1);
+        self.questions.print();
         self.print_lists();
         println!("\nsecond opinions on the plain version");
         println!("  by the definition: {}", self.definition);
         println!("  by all stable sets tried: {}", self.all_stable_sets);
         println!("  by the tuned version: {}", self.tuned);
-        println!("\nruns of the bench program: {}", self.bench_runs);
+        self.bench.print();
+        self.weighted.print();
     }
 
     fn print_lists(&self) {

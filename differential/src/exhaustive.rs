@@ -1,10 +1,12 @@
-//! Cases that are not random: every length, every head with every single body atom, every request, small sessions.
+//! Cases that are not random, or not all of it: every length, every head with every single body atom, every request, small
+//! sessions, every size of a question.
 
 use crate::calls::Call;
 use crate::counts::Kind;
 use crate::marked::policy_a;
 use crate::plain::policy::Record;
 use crate::policies::{access, disclosure, encode};
+use crate::questions::{every_block, every_size};
 use crate::tester::Tester;
 
 fn check(tester: &mut Tester, policy: Vec<u8>) {
@@ -90,4 +92,6 @@ pub fn exhaustive(tester: &mut Tester) {
     bodies(tester);
     requests(tester);
     sessions(tester);
+    every_size(tester);
+    every_block(tester);
 }

@@ -1,6 +1,7 @@
 //! The gate itself, through its C interface. The only file with unsafe code.
 
 use crate::calls::{Call, Memory, Version, PLACE};
+use crate::weighted::Search;
 
 #[link(name = "capi", kind = "static")]
 extern "C" {
@@ -9,6 +10,19 @@ extern "C" {
     fn gate_disclosable(policy: *const u8, length: usize, shown: u16, set: *mut u16) -> u32;
     fn gate_open(request: u16, session: *mut u8) -> u32;
     fn gate_round(policy: *const u8, length: usize, session: *mut u8, shown: u16) -> u32;
+}
+
+#[link(name = "probe", kind = "static")]
+extern "C" {
+    fn probe_search(
+        policy: *const u8,
+        length: usize,
+        request: u16,
+        shown: u16,
+        within: u16,
+        weights: *const [u8; 16],
+        limit: u32,
+    ) -> u64;
 }
 
 /// The gate as a version to be called. Sessions are lent at every alignment in turn.
@@ -85,4 +99,20 @@ pub fn disclosable(policy: &[u8], shown: u16) -> (u32, u16) {
 pub fn round(policy: &[u8], session: &mut [u8; 10], shown: u16) -> u32 {
     // SAFETY: both pointers are valid, the session for ten bytes, and do not overlap.
     unsafe { gate_round(policy.as_ptr(), policy.len(), session.as_mut_ptr(), shown) }
+}
+
+/// A search by weights against a limit: the reply.
+pub fn search(policy: &[u8], search: &Search) -> u64 {
+    // SAFETY: the policy's pointer is valid for its length, and that to the weights for sixteen bytes.
+    unsafe {
+        probe_search(
+            policy.as_ptr(),
+            policy.len(),
+            search.request,
+            search.shown,
+            search.within,
+            &search.weights,
+            search.limit,
+        )
+    }
 }

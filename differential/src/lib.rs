@@ -1,5 +1,6 @@
 //! Differential tests and a benchmark of the station gate, against document 01 in plain Rust.
 
+pub mod bench_counts;
 pub mod bench_runs;
 pub mod calls;
 pub mod clients;
@@ -14,6 +15,8 @@ pub mod options;
 pub mod plain;
 pub mod play;
 pub mod policies;
+pub mod question_counts;
+pub mod questions;
 pub mod random;
 pub mod replay;
 pub mod report;
@@ -23,3 +26,4 @@ pub mod slips;
 pub mod stack;
 pub mod tester;
 pub mod tuned;
+pub mod weighted;

@@ -7,6 +7,7 @@ pub const USAGE: &str = "options of differential/run:
   --seed S         seed of the random numbers (default 1)
   --threads T      threads (default 2)
   --bench-runs N   runs of the bench program (default 1000; 0: none)
+  --searches N     searches by weights (default 50000)
   --slips          test wrong versions instead of the gate; each must be found out
   --slip N         test the N-th wrong version as if it were the gate, its disagreements written down
   --slip-cases N   cases in which a slip must be found out (default 300000)
@@ -19,6 +20,7 @@ pub struct Options {
     pub seed: u64,
     pub threads: u64,
     pub bench_runs: u64,
+    pub searches: u64,
     pub slips: bool,
     pub slip: u64,
     pub slip_cases: u64,
@@ -35,6 +37,7 @@ impl Default for Options {
             seed: 1,
             threads: 2,
             bench_runs: 1000,
+            searches: 50_000,
             slips: false,
             slip: 0,
             slip_cases: 300_000,
@@ -63,6 +66,7 @@ pub fn parse(mut words: impl Iterator<Item = String>) -> Result<Options, String>
             "--seed" => options.seed = number(&word, words.next())?,
             "--threads" => options.threads = number(&word, words.next())?.max(1),
             "--bench-runs" => options.bench_runs = number(&word, words.next())?,
+            "--searches" => options.searches = number(&word, words.next())?,
             "--slips" => options.slips = true,
             "--slip" => options.slip = number(&word, words.next())?,
             "--slip-cases" => options.slip_cases = number(&word, words.next())?,

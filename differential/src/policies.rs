@@ -251,8 +251,11 @@ fn edges(random: &mut Random) -> Vec<Record> {
 
 /// A service that each askable credential gives alone, or gives with one more: long sessions.
 fn singles(random: &mut Random) -> Vec<Record> {
-    let count = random.pick(&[1, 2, 3, 4, 5, 6, 7, 8, 10, 12]);
-    let count = if random.one_in(4) { 16 } else { count };
+    let count = match random.below(12) {
+        0..=7 => random.range(1, 10),
+        8 => random.range(11, 15),
+        _ => 16,
+    };
     let credentials = some(random, count, 0, 15);
     let service = random.range(16, 62) as u8;
     let mut records = Vec::new();

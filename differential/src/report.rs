@@ -76,12 +76,28 @@ impl Shared {
         self.stop.load(Ordering::Relaxed)
     }
 
-    /// Counts a disagreement, and writes it down unless told to be quiet.
-    pub fn report(&self, finding: &Finding) {
+    /// Counts a disagreement; its number.
+    fn counted(&self) -> u64 {
         let number = 1 + self.disagreements.fetch_add(1, Ordering::Relaxed);
         if number >= MOST || self.quiet {
             self.stop.store(true, Ordering::Relaxed);
         }
+        number
+    }
+
+    /// A disagreement that is no call of include/gate.h: printed with all that it takes to repeat it.
+    pub fn tell(&self, title: &str, lines: &[String]) {
+        let number = self.counted();
+        let _printing = self.printing.lock();
+        println!("\ndisagreement {number}: {title}");
+        for line in lines {
+            println!("  {line}");
+        }
+    }
+
+    /// Counts a disagreement, and writes it down unless told to be quiet.
+    pub fn report(&self, finding: &Finding) {
+        let number = self.counted();
         if self.quiet {
             return;
         }

@@ -8,6 +8,7 @@ use crate::plain::interface::decode;
 use crate::plain::policy::Record;
 use crate::play::{changing_list, cooperative_lists, lists};
 use crate::policies;
+use crate::questions::questions;
 use crate::sessions;
 use crate::tester::Tester;
 
@@ -169,8 +170,14 @@ pub(crate) fn still_sound(tester: &mut Tester, reply: u32, call: Call, memory: M
     }
 }
 
+/// One scenario in so many is a round made for its question.
+const QUESTIONS_IN: usize = 100;
+
 /// One scenario.
 pub fn scenario(tester: &mut Tester) {
+    if tester.random.one_in(QUESTIONS_IN) {
+        return questions(tester);
+    }
     match tester.random.below(100) {
         0..=2 => openings(tester),
         3..=15 => sets(tester),

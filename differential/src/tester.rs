@@ -1,10 +1,12 @@
 //! Runs cases: one call of the version under test and of the plain version, all that they answer compared.
 
-use crate::calls::{Call, Memory, Version};
+use crate::calls::{refusal_of, Call, Memory, Version};
 use crate::counts::{Counts, Kind};
 use crate::definition::{cost, stable_sets, Definition};
-use crate::plain::interface::Plain;
+use crate::plain::disclosure::disclosable;
+use crate::plain::interface::{decode, Plain};
 use crate::plain::policy::{check, Policy};
+use crate::plain::session::Phase;
 use crate::random::Random;
 use crate::report::{answer, Finding, Shared, Trail};
 use crate::tuned::Tuned;
@@ -129,6 +131,7 @@ impl<'a> Tester<'a> {
         let (reply, memory, kept) = self.ask_subject(call, before);
         let (wanted, wanted_memory) = self.ask_oracle(call, before);
         self.counts.case(kind, call, wanted);
+        self.count_question(call, wanted, wanted_memory);
         if self.counts.cases().is_multiple_of(64) {
             self.shared.cases.fetch_add(64, Ordering::Relaxed);
         }
@@ -140,6 +143,19 @@ impl<'a> Tester<'a> {
             return None;
         }
         Some((reply, memory))
+    }
+
+    /// Counts the question that a round has given, beside what may be asked.
+    fn count_question(&mut self, call: Call, reply: u32, after: Memory) {
+        let (Some(rules), Some(session)) = (&self.rules, decode(after.session())) else {
+            return;
+        };
+        if let (Call::Round(_), 0, Phase::Waiting(asked)) = (call, refusal_of(reply), session.phase)
+        {
+            let outside = session.shown | session.declined;
+            let may_ask = disclosable(&rules.disclosure, session.shown) & !outside;
+            self.counts.questions.sized(may_ask, asked);
+        }
     }
 
     /// The plain version against the tuned one, and in some cases against the definition.

@@ -1,5 +1,6 @@
 //! Versions that are wrong on purpose, each by one slip: the tests must find out every one of them.
 
+mod blocks;
 mod model;
 mod policy;
 mod round;
@@ -11,6 +12,7 @@ use crate::plain::policy::Refusal;
 #[derive(Clone, Copy, PartialEq, Eq, Debug)]
 pub enum Slip {
     None,
+    NoneByBlocks,
     BreachUnread,
     NotTooEarly,
     Irreducible,
@@ -50,10 +52,30 @@ pub enum Slip {
     SixteenRounds,
     LastCredential,
     TwoHundredTrials,
+    TieInBlock,
+    TieOfBlocks,
+    FirstBlockTie,
+    StopsOnEqual,
+    LastBlock,
+    BlockAfterHit,
+    StopsEarly,
+    FirstHit,
+    LaneCost,
+    HighMembers,
+    HighOrder,
+    LowEight,
+    FewInOrder,
+    FourMembers,
 }
 
+/// The same code with nothing wrong in it, its candidates sorted, and by blocks.
+pub const CONTROLS: [(Slip, &str); 2] = [
+    (Slip::None, "no slip"),
+    (Slip::NoneByBlocks, "no slip, by blocks"),
+];
+
 /// Each slip with what is wrong.
-pub const SLIPS: [(Slip, &str); 39] = [
+pub const SLIPS: [(Slip, &str); 53] = [
     (
         Slip::BreachUnread,
         "grants on the service alone, the breach mark unread",
@@ -141,6 +163,56 @@ pub const SLIPS: [(Slip, &str); 39] = [
     (Slip::SixteenRounds, "denies in round 17 whatever is shown"),
     (Slip::LastCredential, "credential 15 never asked for"),
     (Slip::TwoHundredTrials, "gives up after 200 candidates"),
+    (
+        Slip::TieInBlock,
+        "by blocks: of a block's sets as good the largest number",
+    ),
+    (
+        Slip::TieOfBlocks,
+        "by blocks: of blocks as good the one tried last",
+    ),
+    (
+        Slip::FirstBlockTie,
+        "by blocks: of blocks as good the one tried first",
+    ),
+    (
+        Slip::StopsOnEqual,
+        "by blocks: stops where the next block can only be as good",
+    ),
+    (Slip::LastBlock, "by blocks: the last block passed over"),
+    (
+        Slip::BlockAfterHit,
+        "by blocks: the block after the first with a hit passed over",
+    ),
+    (Slip::StopsEarly, "by blocks: stops one block early"),
+    (
+        Slip::FirstHit,
+        "by blocks: stops at the first block with a hit",
+    ),
+    (
+        Slip::LaneCost,
+        "by blocks: the best of all by its cost within its block",
+    ),
+    (
+        Slip::HighMembers,
+        "by blocks: from the ninth member on, member j taken as credential j",
+    ),
+    (
+        Slip::HighOrder,
+        "by blocks: from the ninth member on, members the other way round",
+    ),
+    (
+        Slip::LowEight,
+        "by blocks: only the eight lowest members tried",
+    ),
+    (
+        Slip::FewInOrder,
+        "three members or fewer: the first in order of number",
+    ),
+    (
+        Slip::FourMembers,
+        "four members taken as few, the fourth never tried",
+    ),
 ];
 
 /// The plain version with a slip in it.

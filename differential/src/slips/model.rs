@@ -91,6 +91,7 @@ impl Slipped {
             Slip::DenyUnlooked => return None,
             Slip::AsksAll => return opens(d).then_some(d),
             Slip::Irreducible => return self.irreducible(rules, session, d),
+            _ if self.by_blocks() => return self.preferred_by_blocks(d, opens),
             _ => {}
         }
         let mut subsets = vec![0u16];

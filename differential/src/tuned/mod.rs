@@ -6,12 +6,13 @@ mod rules;
 mod search;
 
 pub use check::check;
+pub(crate) use rules::Access;
 
 use crate::calls::{Call, Memory, Version};
 use crate::plain::interface::{call_round, encode, refusal_reply};
 use crate::plain::policy::Refusal;
 use crate::plain::session::{is_service, open, sound, Ending, Phase, Session, Verdict};
-use rules::{Access, Disclosures};
+use rules::Disclosures;
 use search::preferred;
 
 pub fn model(policy: &[u8], credentials: u16) -> Result<u64, Refusal> {

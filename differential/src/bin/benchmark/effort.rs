@@ -1,9 +1,12 @@
 //! What a worst round comes to: body tests, and stack.
 
+use crate::inputs::{Input, Inputs};
 use crate::timing::Times;
 use differential::gate;
+use differential::plain::disclosure::disclosable;
 use differential::plain::policy::{check, level, Record};
 use differential::stack;
+use differential::weighted::{tuned, Answer, Search};
 
 /// Tests of a rule's body in passes over all levels, for every part of sixteen credentials.
 fn body_tests(policy: &[u8]) -> u64 {
@@ -35,33 +38,78 @@ fn body_tests(policy: &[u8]) -> u64 {
     tests
 }
 
-pub fn print_tests(full: &[(String, Vec<u8>)], times: &[Times]) {
-    println!("\nBody tests in a worst round, and the gate's time for each (median):\n");
-    for (name, policy) in full {
-        let tests = body_tests(policy) as f64;
-        let worst = format!("worst round, {name}");
+pub fn print_tests(inputs: &Inputs, times: &[Times]) {
+    if !times
+        .iter()
+        .any(|item| item.name.starts_with("worst round"))
+    {
+        return;
+    }
+    println!("\nBody tests in a worst round, one candidate at a time, and each version's time for one (median):\n");
+    println!("| | body tests, million | gate, ns | plain, ns | tuned, ns |");
+    println!("|---|---:|---:|---:|---:|");
+    for input in &inputs.full {
+        let worst = format!("worst round, {}", input.name);
         let Some(item) = times.iter().find(|item| item.name.starts_with(&worst)) else {
             continue;
         };
-        let each = item.median[0] / tests * 1e9;
-        println!("- {name}: {:.1} million, {each:.2} ns each", tests / 1e6);
+        let tests = body_tests(&input.policy) as f64;
+        let [gate, plain, tuned] = item.median.map(|seconds| seconds / tests * 1e9);
+        let name = &input.name;
+        println!(
+            "| {name} | {:.1} | {gate:.3} | {plain:.2} | {tuned:.2} |",
+            tests / 1e6
+        );
     }
 }
 
-pub fn print_stack(full: &[(String, Vec<u8>)]) {
-    println!("\nDeepest stack below the caller, in bytes, of the gate:\n");
-    println!("- nothing called: {}", show(stack::depth(|| ())));
-    for (name, policy) in full {
-        let [a, b, c, d] = std::array::from_fn(|_| policy.clone());
-        let mut session = [62, 0, 0, 0, 0, 0, 0, 0, 0, 0];
-        let depths = [
-            stack::depth(move || gate::check(&a)),
-            stack::depth(move || gate::model(&b, 0xffff)),
-            stack::depth(move || gate::disclosable(&c, 0)),
-            stack::depth(move || gate::round(&d, &mut session, 0)),
-        ];
-        let [check, model, disclosable, round] = depths.map(show);
-        println!("- {name}: check {check}, model {model}, disclosable set {disclosable}, worst round {round}");
+/// The place of the candidate asked for in the first round, or of how many there are where none is.
+fn trials(input: &Input) -> Option<u32> {
+    let policy = check(&input.policy).ok()?;
+    let search = Search {
+        request: input.request,
+        shown: 0,
+        within: disclosable(&policy.disclosure, 0),
+        weights: [1; 16],
+        limit: u32::MAX,
+    };
+    match tuned::answer(&input.policy, &search) {
+        Answer::Found { trials, .. } | Answer::Nothing { trials } => Some(trials),
+        _ => None,
+    }
+}
+
+/// The deepest stack of each call, in bytes.
+fn depths(input: &Input) -> [Option<usize>; 4] {
+    let [a, b, c, d] = std::array::from_fn(|_| input.policy.clone());
+    let mut session = [0; 10];
+    session[..2].copy_from_slice(&input.request.to_le_bytes());
+    [
+        stack::depth(move || gate::check(&a)),
+        stack::depth(move || gate::model(&b, 0xffff)),
+        stack::depth(move || gate::disclosable(&c, 0)),
+        stack::depth(move || gate::round(&d, &mut session, 0)),
+    ]
+}
+
+/// The deepest stack of a search by weights.
+fn search_depth(input: &Input) -> Option<usize> {
+    let (policy, search) = (input.policy.clone(), crate::searches::search(input, 65_535));
+    stack::depth(move || gate::search(&policy, &search))
+}
+
+pub fn print_stack(inputs: &Inputs) {
+    let nothing = show(stack::depth(|| ()));
+    println!(
+        "\nDeepest stack below the caller, in bytes, of the gate; with nothing called {nothing}:\n"
+    );
+    println!("| | check | model | disclosable set | first round | its trials | sixteen weights |");
+    println!("|---|---:|---:|---:|---:|---:|---:|");
+    for input in inputs.all() {
+        let cells = depths(input).map(show).join(" | ");
+        let trials = trials(input).map_or("-".to_string(), |trials| trials.to_string());
+        let search = show(search_depth(input));
+        println!("| {} | {cells} | {trials} | {search} |", input.name);
     }
 }
 

@@ -1,13 +1,12 @@
 //! What is timed: the same call to the gate, the plain and the tuned version.
 
+use crate::inputs::{Input, Inputs};
 use differential::gate;
-use differential::marked::policy_a;
 use differential::plain::disclosure::disclosable;
 use differential::plain::interface::{decode, encode, ending_reply};
 use differential::plain::model::model;
 use differential::plain::policy::{check, Policy};
 use differential::plain::session::{open, round};
-use differential::policies::{access, disclosure, encode as policy_bytes};
 use differential::tuned;
 use std::hint::black_box;
 
@@ -17,33 +16,15 @@ pub struct Item {
     pub versions: [Box<dyn Fn() -> u64>; 3],
 }
 
-/// A policy of 44 records: eight askable credentials, roles on three levels, each with "not"; the service is 48.
-fn middle() -> Vec<u8> {
-    let mut records = Vec::new();
-    let bit = |atom: u8| 1u64 << atom;
-    for k in 0..8u8 {
-        let next = |by: u8| (k + by) % 8;
-        records.push(disclosure(k, if k % 2 == 0 { 0 } else { bit(k - 1) }));
-        records.push(access(16 + k, bit(k) | bit(next(1)), 0));
-        records.push(access(24 + k, bit(16 + k), bit(next(4))));
-        records.push(access(
-            32 + k,
-            bit(24 + k) | bit(16 + next(1)),
-            bit(next(6)),
-        ));
-        records.push(access(40 + k, bit(32 + k) | bit(24 + next(1)), 0));
-    }
-    records.push(access(48, bit(40), 0));
-    records.push(access(48, bit(43) | bit(41), 0));
-    records.push(access(63, bit(0) | bit(7), 0));
-    records.push(access(63, bit(49), bit(48)));
-    policy_bytes(&records)
+/// A copy of the policy for each version.
+fn copies(input: &Input) -> [Vec<u8>; 3] {
+    std::array::from_fn(|_| input.policy.clone())
 }
 
-fn check_item(name: &str, policy: &[u8]) -> Item {
-    let (a, b, c) = (policy.to_vec(), policy.to_vec(), policy.to_vec());
+fn check_item(input: &Input) -> Item {
+    let [a, b, c] = copies(input);
     Item {
-        name: format!("check, {name}"),
+        name: format!("check, {}", input.name),
         versions: [
             Box::new(move || gate::check(black_box(&a)).into()),
             Box::new(move || check(black_box(&b)).map_or(1, |_| 0)),
@@ -52,10 +33,10 @@ fn check_item(name: &str, policy: &[u8]) -> Item {
     }
 }
 
-fn model_item(name: &str, policy: &[u8], credentials: u16) -> Item {
-    let (a, b, c) = (policy.to_vec(), policy.to_vec(), policy.to_vec());
+fn model_item(input: &Input, credentials: u16) -> Item {
+    let [a, b, c] = copies(input);
     Item {
-        name: format!("model, {name}"),
+        name: format!("model, {}", input.name),
         versions: [
             Box::new(move || gate::model(black_box(&a), black_box(credentials)).1),
             Box::new(move || {
@@ -66,10 +47,10 @@ fn model_item(name: &str, policy: &[u8], credentials: u16) -> Item {
     }
 }
 
-fn disclosable_item(name: &str, policy: &[u8], shown: u16) -> Item {
-    let (a, b, c) = (policy.to_vec(), policy.to_vec(), policy.to_vec());
+fn disclosable_item(input: &Input, shown: u16) -> Item {
+    let [a, b, c] = copies(input);
     Item {
-        name: format!("disclosable set, {name}"),
+        name: format!("disclosable set, {}", input.name),
         versions: [
             Box::new(move || gate::disclosable(black_box(&a), black_box(shown)).1.into()),
             Box::new(move || {
@@ -91,9 +72,9 @@ fn number(reply: u32, session: [u8; 10]) -> u64 {
 }
 
 /// The first round of a session that shows nothing.
-fn round_item(name: &str, policy: &[u8], request: u16) -> Option<Item> {
-    let (a, b, c) = (policy.to_vec(), policy.to_vec(), policy.to_vec());
-    let fresh = open(request).ok()?;
+fn round_item(what: &str, input: &Input) -> Option<Item> {
+    let [a, b, c] = copies(input);
+    let fresh = open(input.request).ok()?;
     let bytes = encode(&fresh);
     let session = decode(bytes)?;
     let answer = |done: Result<(_, _), _>| match done {
@@ -101,7 +82,7 @@ fn round_item(name: &str, policy: &[u8], request: u16) -> Option<Item> {
         Err(_) => 0,
     };
     Some(Item {
-        name: format!("{name}, request {request}"),
+        name: format!("{what}, {}, request {}", input.name, input.request),
         versions: [
             Box::new(move || {
                 let mut session = black_box(bytes);
@@ -120,35 +101,16 @@ fn round_item(name: &str, policy: &[u8], request: u16) -> Option<Item> {
     })
 }
 
-pub fn items(full: &[(String, Vec<u8>)]) -> Vec<Item> {
-    let (a, middle) = (policy_a(), middle());
-    let mut items = vec![
-        check_item("policy A", &a),
-        check_item("44 records", &middle),
-    ];
-    items.extend(
-        full.iter()
-            .take(1)
-            .map(|(name, policy)| check_item(name, policy)),
-    );
-    items.push(model_item("policy A", &a, 0b11));
-    items.push(model_item("44 records", &middle, 0xff));
-    items.extend(
-        full.iter()
-            .map(|(name, policy)| model_item(name, policy, 0x5555)),
-    );
-    items.push(disclosable_item("policy A", &a, 0));
-    items.push(disclosable_item("44 records", &middle, 0));
-    items.extend(
-        full.iter()
-            .take(1)
-            .map(|(name, policy)| disclosable_item(name, policy, 0)),
-    );
-    items.extend(round_item("first round, policy A", &a, 16));
-    items.extend(round_item("first round, 44 records", &middle, 48));
-    let worst = |(name, policy): &(String, Vec<u8>)| {
-        round_item(&format!("worst round, {name}"), policy, 62)
-    };
-    items.extend(full.iter().filter_map(worst));
+pub fn items(inputs: &Inputs) -> Vec<Item> {
+    let (a, middle, full) = (&inputs.a, &inputs.middle, &inputs.full);
+    let mut items: Vec<Item> = [a, middle, &full[0]].map(check_item).into();
+    items.push(model_item(a, 0b11));
+    items.push(model_item(middle, 0xff));
+    items.extend(full.iter().map(|input| model_item(input, 0x5555)));
+    items.extend([a, middle, &full[0]].map(|input| disclosable_item(input, 0)));
+    let first = [a, middle].into_iter().chain(&inputs.asking);
+    items.extend(first.filter_map(|input| round_item("first round", input)));
+    let worst = full.iter();
+    items.extend(worst.filter_map(|input| round_item("worst round", input)));
     items
 }

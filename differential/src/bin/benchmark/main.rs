@@ -1,23 +1,43 @@
-//! The benchmark: the gate, the plain version and the tuned version, on the same inputs in the same run.
+//! The benchmark: the gate, the plain version and the tuned version, on the same inputs in the same run; and clingo.
 
+mod clingo;
 mod effort;
+mod inputs;
 mod items;
+mod program;
+mod searches;
+mod solver;
 mod tables;
 mod timing;
 
-use std::path::{Path, PathBuf};
+use inputs::Inputs;
+use std::path::PathBuf;
 use std::process::ExitCode;
+use timing::Times;
 
-/// The three policies of 128 records.
-fn full_policies(folder: &Path) -> Result<Vec<(String, Vec<u8>)>, String> {
-    let read = |name: &str| {
-        let bytes = std::fs::read(folder.join(name)).map_err(|e| format!("{name}: {e}"))?;
-        Ok((name.to_string(), bytes))
+const USAGE: &str =
+    "usage: benchmark FOLDER [--runs N] [WORD]: so many runs, only items with this word";
+
+struct Options {
+    folder: PathBuf,
+    runs: usize,
+    word: String,
+}
+
+fn options(mut words: impl Iterator<Item = String>) -> Option<Options> {
+    let mut options = Options {
+        folder: PathBuf::from(words.next()?),
+        runs: 1,
+        word: String::new(),
     };
-    ["chain.bin", "wide.bin", "slow.bin"]
-        .into_iter()
-        .map(read)
-        .collect()
+    while let Some(word) = words.next() {
+        if word == "--runs" {
+            options.runs = words.next()?.parse().ok().filter(|runs| *runs > 0)?;
+        } else {
+            options.word = word;
+        }
+    }
+    Some(options)
 }
 
 fn processor() -> String {
@@ -28,23 +48,32 @@ fn processor() -> String {
         .to_string()
 }
 
-fn run() -> Result<(), String> {
-    let folder = std::env::args().nth(1).map(PathBuf::from);
-    let folder = folder.ok_or("usage: benchmark FOLDER [WORD]: only items with this word")?;
-    let word = std::env::args().nth(2).unwrap_or_default();
-    let full = full_policies(&folder)?;
-    println!("processor: {}", processor());
+/// All items that have the word in their name, once.
+fn measured(inputs: &Inputs, word: &str) -> Result<Vec<Times>, String> {
+    let mut items = items::items(inputs);
+    items.extend(searches::items(inputs));
     let mut times = Vec::new();
-    for item in items::items(&full)
-        .iter()
-        .filter(|item| item.name.contains(&word))
-    {
+    for item in items.iter().filter(|item| item.name.contains(word)) {
         eprintln!("{}", item.name);
         times.push(timing::measure(item)?);
     }
-    tables::tables(&times);
-    effort::print_tests(&full, &times);
-    effort::print_stack(&full);
+    Ok(times)
+}
+
+fn run() -> Result<(), String> {
+    let options = options(std::env::args().skip(1)).ok_or(USAGE)?;
+    let inputs = Inputs::read(&options.folder)?;
+    println!("processor: {}", processor());
+    let mut runs = Vec::new();
+    for _ in 0..options.runs {
+        runs.push(measured(&inputs, &options.word)?);
+    }
+    let last = &runs[runs.len() - 1];
+    tables::medians(last);
+    tables::ranges(&runs);
+    clingo::print(&inputs, &options.word)?;
+    effort::print_tests(&inputs, last);
+    effort::print_stack(&inputs);
     Ok(())
 }
 

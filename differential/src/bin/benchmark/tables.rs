@@ -1,9 +1,9 @@
-//! The tables that are printed.
+//! The tables that are printed, as docs/PERFORMANCE.md has them.
 
 use crate::timing::Times;
 
 /// A time with a unit, three digits.
-fn time(seconds: f64) -> String {
+pub fn time(seconds: f64) -> String {
     let (number, unit) = match seconds {
         s if s < 1e-6 => (s * 1e9, "ns"),
         s if s < 1e-3 => (s * 1e6, "µs"),
@@ -13,25 +13,46 @@ fn time(seconds: f64) -> String {
     format!("{number:.digits$} {unit}")
 }
 
-fn table(title: &str, rows: impl Iterator<Item = (String, [f64; 3], [f64; 2])>) {
-    println!("\n{title}:\n");
+/// A ratio with two digits after the point, or three where it is small.
+fn ratio(number: f64) -> String {
+    let digits = if number < 0.095 { 3 } else { 2 };
+    format!("{number:.digits$}")
+}
+
+/// Medians and ratios of the last run.
+pub fn medians(times: &[Times]) {
+    println!("\nMedians:\n");
     println!("| | gate | plain | tuned | gate/plain | gate/tuned |");
     println!("|---|---:|---:|---:|---:|---:|");
-    for (name, times, [plain, tuned]) in rows {
-        let times = times.map(time).join(" | ");
-        println!("| {name} | {times} | {plain:.2} | {tuned:.2} |");
+    for item in times {
+        let times = item.median.map(time).join(" | ");
+        let ratios = item.ratios.map(ratio).join(" | ");
+        println!("| {} | {times} | {ratios} |", item.name);
     }
 }
 
-pub fn tables(times: &[Times]) {
-    let medians = times
-        .iter()
-        .map(|item| (item.name.clone(), item.median, item.ratios));
-    table("Medians", medians);
-    let least = times.iter().map(|item| {
-        let [gate, plain, tuned] = item.least;
-        let ratios = [gate / plain, gate / tuned];
-        (item.name.clone(), item.least, ratios)
-    });
-    table("Minima", least);
+/// The least and the largest of a ratio over all runs.
+fn range(runs: &[Vec<Times>], row: usize, which: usize) -> String {
+    let all = || runs.iter().map(|times| times[row].ratios[which]);
+    let least = all().fold(f64::MAX, f64::min);
+    let most = all().fold(0.0, f64::max);
+    format!("{} to {}", ratio(least), ratio(most))
+}
+
+/// The range of both ratios over all runs, and the minima of the last.
+pub fn ranges(runs: &[Vec<Times>]) {
+    let Some(last) = runs.last() else {
+        return;
+    };
+    println!(
+        "\nRatios over {} runs, and minima of the last:\n",
+        runs.len()
+    );
+    println!("| | gate/plain | gate/tuned | gate, minimum | plain, minimum | tuned, minimum |");
+    println!("|---|---:|---:|---:|---:|---:|");
+    for (row, item) in last.iter().enumerate() {
+        let ratios = [range(runs, row, 0), range(runs, row, 1)].join(" | ");
+        let least = item.least.map(time).join(" | ");
+        println!("| {} | {ratios} | {least} |", item.name);
+    }
 }

@@ -56,19 +56,30 @@ fn sorted(numbers: impl Iterator<Item = f64>) -> Vec<f64> {
     numbers
 }
 
+/// The middle one of some numbers.
+pub fn median(numbers: impl Iterator<Item = f64>) -> f64 {
+    let sorted = sorted(numbers);
+    sorted[sorted.len() / 2]
+}
+
+/// The median time of one call of one version.
+pub fn typical(version: &dyn Fn() -> u64) -> f64 {
+    let calls = calibrate(version);
+    median((0..LONG_SAMPLES).map(|_| sample(version, calls)))
+}
+
 pub fn measure(item: &Item) -> Result<Times, String> {
     let answers: Vec<u64> = item.versions.iter().map(|version| version()).collect();
     if answers.iter().any(|answer| *answer != answers[0]) {
         return Err(format!("{}: different answers {answers:x?}", item.name));
     }
     let rows = samples(item);
-    let middle = rows.len() / 2;
-    let times = |k: usize| sorted(rows.iter().map(move |row| row[k]));
-    let ratio = |k: usize| sorted(rows.iter().map(move |row| row[0] / row[k]))[middle];
+    let times = |k: usize| rows.iter().map(move |row| row[k]);
+    let ratio = |k: usize| median(rows.iter().map(move |row| row[0] / row[k]));
     Ok(Times {
         name: item.name.clone(),
-        median: std::array::from_fn(|k| times(k)[middle]),
-        least: std::array::from_fn(|k| times(k)[0]),
+        median: std::array::from_fn(|k| median(times(k))),
+        least: std::array::from_fn(|k| times(k).fold(f64::MAX, f64::min)),
         ratios: [ratio(1), ratio(2)],
     })
 }

@@ -18,6 +18,7 @@ use differential::scenarios::scenario;
 use differential::slips::{Slipped, SLIPS};
 use differential::tester::Tester;
 use differential::tuned::Tuned;
+use differential::weighted::runs::weighted_runs;
 use std::io::IsTerminal;
 use std::process::ExitCode;
 use std::sync::atomic::{AtomicBool, Ordering};
@@ -38,8 +39,7 @@ fn tested(options: &Options) -> Box<dyn Version> {
 
 /// One thread's share of the cases.
 fn test(shared: &Shared, options: &Options, thread: u64) -> Counts {
-    let first = options.cases * thread / options.threads;
-    let share = options.cases * (thread + 1) / options.threads - first;
+    let share = share(options, options.cases, thread);
     let random = Random::new(options.seed, thread);
     let mut tester = Tester::new(tested(options), random, shared, true);
     if thread == 0 && options.cases >= ENOUGH_FOR_COVERAGE {
@@ -51,13 +51,19 @@ fn test(shared: &Shared, options: &Options, thread: u64) -> Counts {
     tester.counts
 }
 
-fn test_and_bench(shared: &Shared, options: &Options, thread: u64) -> Result<Counts, String> {
+/// What one thread has to do of so many.
+fn share(options: &Options, all: u64, thread: u64) -> u64 {
+    all * (thread + 1) / options.threads - all * thread / options.threads
+}
+
+/// One thread's share of everything.
+fn test_all(shared: &Shared, options: &Options, thread: u64) -> Result<Counts, String> {
     let mut counts = test(shared, options, thread);
-    let first = options.bench_runs * thread / options.threads;
-    let share = options.bench_runs * (thread + 1) / options.threads - first;
-    let (runs, disagreed) = bench_runs(shared, options.seed, thread, share)?;
-    counts.bench_runs = runs;
-    counts.disagreements += disagreed;
+    let runs = share(options, options.bench_runs, thread);
+    counts.bench = bench_runs(shared, options.seed, thread, runs)?;
+    let searches = share(options, options.searches, thread);
+    counts.weighted = weighted_runs(shared, options.seed, thread, searches);
+    counts.disagreements += counts.bench.disagreed + counts.weighted.disagreed;
     Ok(counts)
 }
 
@@ -101,7 +107,7 @@ fn run_threads(shared: &Shared, options: &Options) -> Result<Counts, String> {
     let done = AtomicBool::new(false);
     thread::scope(|scope| {
         let threads: Vec<_> = (0..options.threads)
-            .map(|number| scope.spawn(move || test_and_bench(shared, options, number)))
+            .map(|number| scope.spawn(move || test_all(shared, options, number)))
             .collect();
         scope.spawn(|| progress(shared, &done));
         let mut total = Counts::default();
@@ -137,6 +143,19 @@ fn test_marked(options: &Options) -> Result<(), String> {
     Ok(())
 }
 
+/// Says what should have come up and did not; a short run need not have brought up everything.
+fn covered(total: &Counts) -> bool {
+    let missing = total.missing();
+    if total.cases() < ENOUGH_FOR_COVERAGE {
+        println!("\na short run: {} things did not come up", missing.len());
+        return true;
+    }
+    for what in &missing {
+        println!("did not come up: {what}");
+    }
+    missing.is_empty()
+}
+
 fn test_gate(options: &Options) -> Result<bool, String> {
     let start = Instant::now();
     if options.slip == 0 {
@@ -147,10 +166,7 @@ fn test_gate(options: &Options) -> Result<bool, String> {
     let seconds = start.elapsed().as_secs_f64();
     println!("seed {}, threads {}", options.seed, options.threads);
     total.print();
-    let missing = total.missing();
-    for what in &missing {
-        println!("did not come up: {what}");
-    }
+    let covered = covered(&total);
     let rate = total.cases() as f64 / seconds;
     println!("\n{seconds:.1} s, {rate:.0} cases a second");
     println!(
@@ -158,7 +174,6 @@ fn test_gate(options: &Options) -> Result<bool, String> {
         total.cases(),
         total.disagreements
     );
-    let covered = missing.is_empty() || total.cases() < ENOUGH_FOR_COVERAGE;
     Ok(total.disagreements == 0 && covered)
 }
 

@@ -5,8 +5,10 @@ use differential::options::Options;
 use differential::random::Random;
 use differential::report::Shared;
 use differential::scenarios::scenario;
-use differential::slips::{Slip, Slipped, SLIPS};
+use differential::slips::{Slip, Slipped, CONTROLS, SLIPS};
 use differential::tester::Tester;
+use differential::weighted::runs::found_out;
+use differential::weighted::slips::{Slip as SearchSlip, SLIPS as SEARCH_SLIPS};
 use std::sync::atomic::{AtomicUsize, Ordering};
 use std::sync::Mutex;
 use std::thread;
@@ -48,13 +50,13 @@ fn find_out(options: &Options, slip: Slip) -> Found {
 /// Every slip must be found out by comparing; the same code without a slip must not be found out at all.
 pub fn test_slips(options: &Options) -> Result<bool, String> {
     let next = AtomicUsize::new(0);
-    let results = Mutex::new(vec![Found::default(); SLIPS.len()]);
-    let control = thread::scope(|scope| {
-        let control = scope.spawn(|| find_out(options, Slip::None));
-        for _ in 1..options.threads.max(2) {
+    let all: Vec<(Slip, &str)> = CONTROLS.into_iter().chain(SLIPS).collect();
+    let results = Mutex::new(vec![Found::default(); all.len()]);
+    thread::scope(|scope| {
+        for _ in 0..options.threads {
             scope.spawn(|| loop {
                 let this = next.fetch_add(1, Ordering::Relaxed);
-                let Some((slip, _)) = SLIPS.get(this) else {
+                let Some((slip, _)) = all.get(this) else {
                     return;
                 };
                 let found = find_out(options, *slip);
@@ -63,18 +65,34 @@ pub fn test_slips(options: &Options) -> Result<bool, String> {
                 }
             });
         }
-        control.join()
     });
-    let control = control.map_err(|_| "a thread stopped")?;
     let results = results.into_inner().map_err(|_| "a thread stopped")?;
-    Ok(print_slips(options, control, &results))
+    let (controls, slips) = results.split_at(CONTROLS.len());
+    let all_found = print_slips(options, controls, slips);
+    Ok(test_searches(options) && all_found)
+}
+
+/// The same of searches by weights.
+fn test_searches(options: &Options) -> bool {
+    let most = options.searches;
+    println!("\nthe search by weights, of {most} at most, in which each slip is found out\n");
+    let find = |slip| found_out(options.seed, slip, most);
+    let mut all = true;
+    for (place, (slip, text)) in SEARCH_SLIPS.iter().enumerate() {
+        let found = find(*slip);
+        println!("{:>8}  slip {}: {text}", show(found), place + 1);
+        all &= found.is_some();
+    }
+    let control = find(SearchSlip::None);
+    println!("{:>8}  no slip", show(control));
+    all && control.is_none()
 }
 
 fn show(case: Option<u64>) -> String {
     case.map_or("-".to_string(), |case| case.to_string())
 }
 
-fn print_slips(options: &Options, control: Found, results: &[Found]) -> bool {
+fn print_slips(options: &Options, controls: &[Found], results: &[Found]) -> bool {
     println!(
         "seed {}: the case in which each slip is found out,",
         options.seed
@@ -88,8 +106,10 @@ fn print_slips(options: &Options, control: Found, results: &[Found]) -> bool {
         let (compared, alone) = (show(found.compared), show(found.alone));
         println!("{compared:>8} {alone:>8}  slip {}: {text}", place + 1);
     }
-    let (compared, alone) = (show(control.compared), show(control.alone));
-    println!("{compared:>8} {alone:>8}  no slip");
+    for ((_, text), found) in CONTROLS.iter().zip(controls) {
+        let (compared, alone) = (show(found.compared), show(found.alone));
+        println!("{compared:>8} {alone:>8}  {text}");
+    }
     let found = results
         .iter()
         .filter(|found| found.compared.is_some())
@@ -99,5 +119,6 @@ fn print_slips(options: &Options, control: Found, results: &[Found]) -> bool {
         "\n{} slips, {found} found out, {alone} of them by demand 3 and soundness alone",
         SLIPS.len()
     );
-    found == SLIPS.len() && control.compared.is_none() && control.alone.is_none()
+    let clean = |found: &Found| found.compared.is_none() && found.alone.is_none();
+    found == SLIPS.len() && controls.iter().all(clean)
 }
