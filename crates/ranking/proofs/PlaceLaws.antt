@@ -10,7 +10,8 @@ use lib.ListN.{getD}
 use native.Mathlib.Decide.{decLt}
 use native.Mathlib.Omega.{arith}
 use Rattle.atoms.proofs.TestLaws.{true-T}
-use Rattle.preference.proofs.SumLaws.{sum-next, sum-start}
+use Rattle.preference.proofs.SumLaws.{sum-next, sum-none, sum-start}
+use Rattle.preference.specs.Order.{sum}
 use Rattle.ranking.specs.Place.{below, keysBelow, keysIn, narrow}
 
 pub below-yes : {a b : ℕ} → a < b → below a b ≡ 1
@@ -45,15 +46,22 @@ pub more-below : (keys : List ℕ) (i bar : ℕ) → keysBelow keys (i + 1) bar 
 unfolding keysBelow
 more-below keys i bar = sum-next (λ i. below (getD keys i 0) bar) i
 
+-- nothing is below 0
+pub zero-below : (keys : List ℕ) (count left : ℕ) → left ≡ 0 → 0 ≡ keysBelow keys count (narrow left)
+unfolding keysBelow
+zero-below keys count left e =
+    let z : narrow left ≡ 0 = omega arith in
+    sym (ap (λ (x : ℕ). sum (λ i. below (getD keys i 0) x) count) z ∙ sum-none (λ i. below (getD keys i 0) 0) count (λ i _. below-no (omega arith)))
+
 pub none-in : (low : List ℕ) (lanes : ℕ) (high : List ℕ) (key : ℕ) → keysIn low lanes high 0 key ≡ 0
 unfolding keysIn
 none-in low lanes high key = sum-start (λ b. keysBelow low lanes (narrow (key - 256 * getD high b 0)))
 
-pub more-in : (low : List ℕ) (lanes : ℕ) (high : List ℕ) (b key count left bar more : ℕ) → count ≡ keysIn low lanes high b key → left ≡ key - 256 * getD high b 0
-    → bar ≡ narrow left → more ≡ keysBelow low lanes bar → count + more ≡ keysIn low lanes high (b + 1) key
+pub more-in : (low : List ℕ) (lanes : ℕ) (high : List ℕ) (b key count left more : ℕ) → count ≡ keysIn low lanes high b key → left ≡ key - 256 * getD high b 0
+    → more ≡ keysBelow low lanes (narrow left) → count + more ≡ keysIn low lanes high (b + 1) key
 unfolding keysIn
-more-in low lanes high b key count left bar more p q r s =
-    omega (arith, p, s ∙ ap (keysBelow low lanes) (r ∙ ap narrow q), sum-next (λ b. keysBelow low lanes (narrow (key - 256 * getD high b 0))) b)
+more-in low lanes high b key count left more p q s =
+    omega (arith, p, s ∙ ap (keysBelow low lanes) (ap narrow q), sum-next (λ b. keysBelow low lanes (narrow (key - 256 * getD high b 0))) b)
 
 -- ---- the bar: where the first candidate of a block is past the limit
 

@@ -48,6 +48,17 @@ fn narrow(left: u64) -> u32
     }
 }
 
+// How many lanes add less to a key than is left. Nothing is left for a block that comes after it.
+fn lanes_below(low: &[u32; 256], lanes: usize, left: u64) -> u32
+    requires { ⌜ (lanes ≤ 256) × (left < 274877906944) ⌝ }
+    ensures { λ r. ⌜ (r ≡ keysBelow (now (low .entry)) lanes (narrow left)) × (r ≤ lanes) ⌝ }
+{
+    if left == 0 {
+        return 0;
+    }
+    keys_below(low, lanes, narrow(left))
+}
+
 // How many candidates have a key below the given one.
 pub fn place<'a>(
     low: &'a [u32; 256],
@@ -62,8 +73,7 @@ pub fn place<'a>(
     let mut count: u32 = 0;
     let mut b: usize = 0;
     while b < blocks {
-        let bar = narrow(left(key, high[b]));
-        count += keys_below(low, lanes, bar);
+        count += lanes_below(low, lanes, left(key, high[b]));
         b += 1;
     }
     count as usize

@@ -23,9 +23,10 @@ use Rattle.ranking.proofs.GridLaws.{counted}
 use Rattle.ranking.proofs.RankLaws.{grid, lanes-ranked, ranked}
 use Rattle.ranking.proofs.SettledLaws.{place-is, settled-found, settled-nothing}
 use Rattle.search.specs.Blocks.{BestOf, KeyTable}
-use Rattle.search.specs.Singles.{FirstLane, Numbered}
+use Rattle.search.specs.Singles.{BestLane}
 use Rattle.search.specs.Types.{limited}
 use Rattle.search.proofs.BlockLaws.{settled-blocks}
+use Rattle.search.proofs.SingleLaws.{lane-all}
 
 -- ---- whatever the keys
 
@@ -53,22 +54,15 @@ module _ (ws : List ℕ) (count : ℕ) (low : List ℕ) (c : count ≤ 3) (k : K
   number : (i : ℕ) → i < 2 ^ count → getD low i 0 % 256 ≡ i
   number i l = omega (arith, k .each i l, top)
 
-  pub numbered : (lanes : ℕ) → lanes ≡ 2 ^ count → Numbered low lanes
-  numbered lanes e = record {
-    some = omega (arith, pow-pos count);
-    most = omega (arith, top);
-    number = λ i l. number i (omega arith);
-    small = λ i l. omega (arith, k .small i (omega arith));
-  }
-
-  module _ (test : ℕ → Bool) (limit best lanes : ℕ) (e : lanes ≡ 2 ^ count) (h : FirstLane test low lanes limit best) where
-    first : FirstLane test low (2 ^ count) limit best
-    first = subst (λ (x : ℕ). FirstLane test low x limit best) e h
+  module _ (test : ℕ → Bool) (limit best lanes : ℕ) (e : lanes ≡ 2 ^ count) (beyond : (i : ℕ) → 2 ^ count ≤ i → i < 8 → getD low i 0 ≡ never)
+      (f : test 0 ≡ false) (h : BestLane test low 7 best) where
+    first : Settled (λ i. getD low i 0) test (2 ^ count) never limit best
+    first = lane-all test low (2 ^ count) limit best top beyond f h
 
     pub single-nothing : never ≤ best → limited limit (nothing (lanes - 1)) ≡ searched (costOf ws) test (2 ^ count) limit
     single-nothing l =
-        answer-nothing (costOf ws) (λ i. getD low i 0) (2 ^ count) never (lanes-ranked ws count low (omega arith) k) test limit best first (lanes - 1) (pow-pos count) l
-        (omega arith)
+        answer-nothing (costOf ws) (λ i. getD low i 0) (2 ^ count) never (lanes-ranked ws count low (omega arith) k) test limit best first (lanes - 1)
+        (pow-pos count) l (omega arith)
 
     pub single-found : (at : ℕ) → best < never → at ≡ keysBelow low lanes best
         → limited limit (found (best % 256) at) ≡ searched (costOf ws) test (2 ^ count) limit

@@ -1,30 +1,28 @@
--- Candidates one by one, in order of key. Assumes nothing.
+-- Candidates one by one, with the best so far. Assumes nothing.
 use mathlib.Core.Path.{_≡_}
 use mathlib.Core.Logic.{_⊎_}
-use mathlib.Core.Bool.{Bool, false, true}
+use mathlib.Core.Bool.{Bool, true}
 use mathlib.Core.List.{List}
-use Prim.Native.Nat.{_%_, _<_, _≤_, ℕ}
+use Prim.Native.Nat.{_<_, _≤_, suc, zero, ℕ}
 use lib.ListN.{getD}
-use Rattle.ranking.specs.Grid.{Settled}
 use Rattle.ranking.specs.Keys.{never}
-use Rattle.ranking.specs.Place.{keysBelow}
 
--- a lane's number can be read off its key
-pub record Numbered (low : List ℕ) (lanes : ℕ) : Type 0 where
-  pub some : 0 < lanes
-  pub most : lanes ≤ 8
-  pub number : (i : ℕ) → i < lanes → getD low i 0 % 256 ≡ i
-  pub small : (i : ℕ) → i < lanes → getD low i 0 < never
+-- the candidate whose turn is the k-th of seven: 1, 2, 4, 3, 5, 6, 7
+unfoldable pub turnOf : ℕ → ℕ
+turnOf zero = 1
+turnOf (suc zero) = 2
+turnOf (suc (suc zero)) = 4
+turnOf (suc (suc (suc zero))) = 3
+turnOf (suc (suc (suc (suc k)))) = suc (suc (suc (suc (suc k))))
 
--- no lane is left, or the one of this key stands past the limit; else it is the key of a lane
-pub record Past (low : List ℕ) (lanes key limit : ℕ) (r : Bool) : Type 0 where
-  pub yes : r ≡ true → (never ≤ key) ⊎ (limit < keysBelow low lanes key)
-  pub no : r ≡ false → key < never
+-- the key where the candidate passes and it is better, else the best so far
+pub record Tried (passes : Bool) (key best r : ℕ) : Type 0 where
+  pub kept : r ≤ best
+  pub met : passes ≡ true → r ≤ key
+  pub one : (r ≡ best) ⊎ ((passes ≡ true) × (r ≡ key))
 
--- no lane whose key is below one passes
-abbrev pub NoneBelow : (ℕ → Bool) → List ℕ → ℕ → ℕ → Type 0
-NoneBelow test low lanes from = (i : ℕ) → i < lanes → getD low i 0 < from → test i ≡ false
-
--- the key of the first lane that passes, but for those past the limit
-abbrev pub FirstLane : (ℕ → Bool) → List ℕ → ℕ → ℕ → ℕ → Type 0
-FirstLane test low lanes limit best = Settled (λ i. getD low i 0) test lanes never limit best
+-- the best key of the candidates that had their turn before k and pass, or never
+pub record BestLane (test : ℕ → Bool) (low : List ℕ) (k best : ℕ) : Type 0 where
+  pub most : best ≤ never
+  pub each : (j : ℕ) → j < k → test (turnOf j) ≡ true → best ≤ getD low (turnOf j) 0
+  pub one : (best ≡ never) ⊎ ((i : ℕ) × (i < 8) × (test i ≡ true) × (getD low i 0 ≡ best))

@@ -5,7 +5,7 @@ ghost use Prim.Native.Nat.{_<_, _^_, _≤_};
 ghost use Rattle.evaluation.specs.Arrays.{Placed};
 ghost use Rattle.preference.specs.InArrays.{opensAt};
 ghost use Rattle.preference.specs.Order.{costOf, searched};
-ghost use Rattle.search.specs.Singles.{FirstLane, Numbered, Past};
+ghost use Rattle.search.specs.Singles.{BestLane, Tried, turnOf};
 ghost use Rattle.search.specs.Types.{resultOf};
 use crate::answer::Answer;
 use crate::answer::found;
@@ -14,7 +14,6 @@ use crate::candidate::candidates;
 use crate::candidate::opens;
 use ranking::NEVER;
 use ranking::keys::write_keys;
-use ranking::next::next_key;
 use ranking::place::keys_below;
 
 // The first that unlocks the request, and its place.
@@ -40,7 +39,7 @@ pub(crate) fn one_by_one<'a>(
     let lanes = candidates(count);
     let mut low = [NEVER; 8];
     write_keys(&mut low, weights, 0, count);
-    let best = first_lane(
+    let best = best_lane(
         heads,
         positive,
         negated,
@@ -50,8 +49,6 @@ pub(crate) fn one_by_one<'a>(
         members,
         count,
         &low,
-        lanes,
-        limit,
     );
     if NEVER <= best {
         return nothing(lanes - 1, limit);
@@ -60,8 +57,8 @@ pub(crate) fn one_by_one<'a>(
     found((best % 256) as usize, place as usize, limit)
 }
 
-// The key of the first lane that passes, or NEVER.
-fn first_lane<'a>(
+// The best key of a candidate that passes, or NEVER. Singles come first, then pairs: in order where all weigh the same.
+fn best_lane<'a>(
     heads: &'a [u64; 128],
     positive: &'a [u64; 128],
     negated: &'a [u64; 128],
@@ -71,23 +68,17 @@ fn first_lane<'a>(
     members: &'a [u16; 16],
     count: usize,
     low: &'a [u32; 8],
-    lanes: usize,
-    limit: usize,
 ) -> u32
-    requires { ⌜ (Placed (now heads) (now starts) × ((count ≤ 3) × Numbered (now low) lanes))
-        × (opensAt (now heads) (now positive) (now negated) (now starts) request shown (now members) count 0 ≡ false) ⌝ }
+    requires { ⌜ Placed (now heads) (now starts) × (count ≤ 3) ⌝ }
     ensures { λ r.
-        ⌜ FirstLane (opensAt (now (heads .entry)) (now (positive .entry)) (now (negated .entry)) (now (starts .entry)) request shown (now (members .entry)) count)
-        (now (low .entry)) lanes limit r ⌝ }
+        ⌜ BestLane (opensAt (now (heads .entry)) (now (positive .entry)) (now (negated .entry)) (now (starts .entry)) request shown (now (members .entry)) count)
+        (now (low .entry)) 7 r ⌝ }
 {
-    let mut from: u32 = 1;
-    loop {
-        let key = next_key(low, lanes, from);
-        if is_past(low, lanes, key, limit) {
-            return NEVER;
-        }
-        let n = (key % 256) as usize;
-        if opens(
+    let mut best: u32 = NEVER;
+    let mut k: usize = 0;
+    while k < 7 {
+        let n = turn(k);
+        best = tried(
             heads,
             positive,
             negated,
@@ -97,23 +88,63 @@ fn first_lane<'a>(
             members,
             count,
             n,
-        ) {
-            return key;
-        }
-        from = key + 1;
+            low[n],
+            best,
+        );
+        k += 1;
     }
+    best
 }
 
-// No lane is left, or the one of this key stands past the limit, which is not counted where none can.
-fn is_past(low: &[u32; 8], lanes: usize, key: u32, limit: usize) -> bool
-    requires { ⌜ (0 < lanes) × (lanes ≤ 8) ⌝ }
-    ensures { λ r. ⌜ Past (now (low .entry)) lanes key limit r ⌝ }
+// The candidate whose turn it is: 3, the first pair, after 4, the last single.
+fn turn(k: usize) -> usize
+    requires { ⌜ k < 7 ⌝ }
+    ensures { λ r. ⌜ (r ≡ turnOf k) × (r < 8) ⌝ }
 {
-    if NEVER <= key {
-        return true;
+    if k == 2 {
+        return 4;
     }
-    if lanes - 1 <= limit {
-        return false;
+    if k == 3 {
+        return 3;
     }
-    limit < keys_below(low, lanes, key) as usize
+    k + 1
+}
+
+// A candidate is tried where its key is better than the best so far.
+fn tried<'a>(
+    heads: &'a [u64; 128],
+    positive: &'a [u64; 128],
+    negated: &'a [u64; 128],
+    starts: &'a [usize; 10],
+    request: u8,
+    shown: u16,
+    members: &'a [u16; 16],
+    count: usize,
+    n: usize,
+    key: u32,
+    best: u32,
+) -> u32
+    requires { ⌜ Placed (now heads) (now starts) × (count ≤ 3) ⌝ }
+    ensures { λ r.
+        ⌜ Tried (opensAt (now (heads .entry)) (now (positive .entry)) (now (negated .entry)) (now (starts .entry)) request shown (now (members .entry)) count n)
+        key best r ⌝ }
+{
+    if best <= key {
+        return best;
+    }
+    if opens(
+        heads,
+        positive,
+        negated,
+        starts,
+        request,
+        shown,
+        members,
+        count,
+        n,
+    ) {
+        key
+    } else {
+        best
+    }
 }

@@ -26,14 +26,11 @@ element-copy-out-left c = omega arith
 left-requires : tie.Need-left-requires Inv-loop μ-loop
 left-requires c κs = search needs
 
-narrow-requires : tie.Need-narrow-requires Inv-loop μ-loop
-narrow-requires c κs = search needs
-
-keys-below-requires : tie.Need-keys-below-requires Inv-loop μ-loop
-keys-below-requires c κs = search needs
+lanes-below-requires : tie.Need-lanes-below-requires Inv-loop μ-loop
+lanes-below-requires c κs = search needs
 
 add-count : tie.Need-add-count Inv-loop μ-loop
-add-count c = omega arith
+add-count c = omega (arith, c .lanes-below .ensures .1)
 
 add-b : tie.Need-add-b Inv-loop μ-loop
 add-b c = omega arith
@@ -43,10 +40,10 @@ loop-less c = omega arith
 
 loop-again : tie.Need-loop-again Inv-loop μ-loop
 loop-again c =
-    let v = c .before .before .before .before .before .before .loop in (
+    let v = c .before .before .before .before .loop in (
       omega arith,
-      omega (arith, c .keys-below .ensures .1),
-      more-in _ _ _ _ _ _ _ _ _ (v .inv .2) (c .before .before .before .left .ensures .0) (c .before .before .narrow .ensures) (c .keys-below .ensures .0),
+      omega (arith, c .lanes-below .ensures .1),
+      more-in _ _ _ _ _ _ _ _ (v .inv .2) (c .before .left .ensures .0) (c .lanes-below .ensures .0),
     )
 
 cast-result : tie.Need-cast-result Inv-loop μ-loop
@@ -67,8 +64,7 @@ place-spec =
     mul-left
     element-copy-out-left
     left-requires
-    narrow-requires
-    keys-below-requires
+    lanes-below-requires
     add-count
     add-b
     loop-less

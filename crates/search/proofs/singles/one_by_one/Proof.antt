@@ -1,7 +1,10 @@
 -- `search::singles::one_by_one` meets its contract. Assumes nothing.
-use mathlib.Core.Path.{_∙_, _≡_}
+use mathlib.Core.Path.{_∙_, _≡_, refl}
+use lib.ListN.{replicate}
 use lib.Pow.{pow-mono}
-use Rattle.search.proofs.AnswerLaws.{numbered, single-found, single-nothing}
+use Rattle.ranking.specs.Keys.{never}
+use Rattle.search.proofs.AnswerLaws.{single-found, single-nothing}
+use Rattle.search.proofs.FilledLaws.{all-are, allAre}
 use borrow.Author.Needs.{needs}
 use native.Mathlib.Omega.{arith}
 use Rattle.search.proofs.singles.one_by_one.Statement.{statement}
@@ -18,10 +21,8 @@ write-keys-requires c κs =
     let m = pow-mono {i = c .before .before .args .count} {j = 3} (c .before .before .pre .0 .1) in
     (omega arith, omega arith, omega arith)
 
-first-lane-requires : tie.Need-first-lane-requires
-first-lane-requires c κs =
-    let p = c .before .before .before .before .before .pre in
-    ((p .0 .0, (p .0 .1, numbered _ _ _ (p .0 .1) (c .before .before .write-keys .ensures .keys) _ (c .before .before .before .before .candidates .ensures .0))), p .1)
+best-lane-requires : tie.Need-best-lane-requires
+best-lane-requires c κs = c .before .before .before .before .before .pre .0
 
 sub-nothing : tie.Need-sub-nothing
 sub-nothing c = search needs
@@ -30,20 +31,23 @@ nothing-requires : tie.Need-nothing-requires
 nothing-requires c κs = search needs
 
 returns : tie.Need-returns
+unfolding allAre
 returns c =
     let p = c .before .before .before .before .before .before .before .before .pre in
+    let w = c .before .before .before .before .before .write-keys .ensures in
     c .nothing .ensures
-    ∙ single-nothing _ _ _ (p .0 .1) (c .before .before .before .before .before .write-keys .ensures .keys) _ _ _ _ (c .before .before .before .before .before .before .before .candidates .ensures .0) (c .before .before .first-lane .ensures) (c .before .if1 .taken)
+    ∙ single-nothing _ _ _ (p .0 .1) (w .keys) _ _ _ _ (c .before .before .before .before .before .before .before .candidates .ensures .0) (λ i k l. w .beyond i k ∙ all-are never (replicate 8 never) refl i l) (p .1)
+    (c .before .before .best-lane .ensures) (c .before .if1 .taken)
 
 slice-aggregate-keys-below : tie.Need-slice-aggregate-keys-below
 slice-aggregate-keys-below c = search needs
 
 keys-below-requires : tie.Need-keys-below-requires
 keys-below-requires c κs =
-    let p = c .before .before .before .before .before .before .before .before .pre in
-    let w = c .before .before .before .before .before .write-keys .ensures in
-    let most = numbered _ _ _ (p .0 .1) (w .keys) _ (c .before .before .before .before .before .before .before .candidates .ensures .0) .most in
-    (omega (arith, w .long), omega arith)
+    let m = pow-mono {i = c .before .before .before .before .before .before .before .before .args .count} {j = 3} (c .before .before .before .before .before .before .before .before .pre .0 .1) in
+    let l = c .before .before .before .before .before .write-keys .ensures .long in
+    let n = c .before .before .before .before .before .before .before .candidates .ensures .0 in
+    (omega arith, omega arith)
 
 cast-found : tie.Need-cast-found
 cast-found c = search needs
@@ -55,11 +59,13 @@ found-requires : tie.Need-found-requires
 found-requires c κs = search needs
 
 returns-2 : tie.Need-returns-2
+unfolding allAre
 returns-2 c =
     let p = c .before .before .before .before .before .before .before .before .before .before .pre in
+    let w = c .before .before .before .before .before .before .before .write-keys .ensures in
     c .found .ensures
-    ∙ single-found _ _ _ (p .0 .1) (c .before .before .before .before .before .before .before .write-keys .ensures .keys) _ _ _ _ (c .before .before .before .before .before .before .before .before .before .candidates .ensures .0) (c .before .before .before .before .first-lane .ensures) _ (omega arith)
-    (c .before .keys-below .ensures .0)
+    ∙ single-found _ _ _ (p .0 .1) (w .keys) _ _ _ _ (c .before .before .before .before .before .before .before .before .before .candidates .ensures .0) (λ i k l. w .beyond i k ∙ all-are never (replicate 8 never) refl i l) (p .1)
+    (c .before .before .before .before .best-lane .ensures) _ (omega arith) (c .before .keys-below .ensures .0)
 
 pub one-by-one-spec : {M : Type 1} → statement M
 one-by-one-spec =
@@ -68,7 +74,7 @@ one-by-one-spec =
     candidates-requires
     slice-aggregate-write-keys
     write-keys-requires
-    first-lane-requires
+    best-lane-requires
     sub-nothing
     nothing-requires
     returns
