@@ -101,8 +101,19 @@ pub fn round(policy: &[u8], session: &mut [u8; 10], shown: u16) -> u32 {
     unsafe { gate_round(policy.as_ptr(), policy.len(), session.as_mut_ptr(), shown) }
 }
 
+/// The weights of the members of a set, the lowest first, as the library takes them.
+fn of_members(weights: &[u8; 16], set: u16) -> [u8; 16] {
+    let mut members = [0; 16];
+    let credentials = (0..16).filter(|k| set >> k & 1 == 1);
+    for (member, k) in credentials.enumerate() {
+        members[member] = weights[k];
+    }
+    members
+}
+
 /// A search by weights against a limit: the reply.
 pub fn search(policy: &[u8], search: &Search) -> u64 {
+    let weights = of_members(&search.weights, search.within & !search.shown);
     // SAFETY: the policy's pointer is valid for its length, and that to the weights for sixteen bytes.
     unsafe {
         probe_search(
@@ -111,7 +122,7 @@ pub fn search(policy: &[u8], search: &Search) -> u64 {
             search.request,
             search.shown,
             search.within,
-            &search.weights,
+            &weights,
             search.limit,
         )
     }

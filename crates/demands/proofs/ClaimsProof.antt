@@ -7,7 +7,12 @@ use Rattle.records.proofs.TheoremsProof as records
 use Rattle.policy.proofs.TheoremsProof as policy
 use Rattle.evaluation.proofs.TheoremsProof as evaluation
 use Rattle.model.proofs.TheoremsProof as model
-use Rattle.preference.proofs.TheoremsProof as search
+use Rattle.preference.proofs.TheoremsProof as preference
+use Rattle.preference.proofs.OrderTheoremsProof as order
+use Rattle.preference.proofs.SwitchLaws as switching
+use Rattle.relevance.proofs.TheoremsProof as relevance
+use Rattle.search.proofs.TheoremsProof as search
+use Rattle.question.proofs.TheoremsProof as question
 use Rattle.session.specs.Sessions.{Session}
 use Rattle.session.proofs.TheoremsProof as session
 use Rattle.demands.specs.Claims.{Claims}
@@ -47,7 +52,12 @@ claims = record {
   policies = policy.theorems;
   arrays = evaluation.theorems;
   answers = model.theorems;
+  preferred = preference.theorems;
+  orders = order.theorems;
+  switches = switching.theorems;
+  relevances = relevance.theorems;
   searches = search.theorems;
+  questions = question.theorems;
   sessions = session.theorems;
   opens = λ r l. opening-promise r;
   demand1 = λ bytes b s m l. demand1 bytes b s m;

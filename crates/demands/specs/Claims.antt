@@ -1,9 +1,9 @@
 -- The theorems that a customer reads, on one page; proofs/ClaimsProof has them all. What they leave to belief is that the words in which they are
 -- stated say what the paper says: Member and Subset; readRecord, recordAt, rulesOf and level; Levelled, BodyHolds, ClosedBeside, Least and
--- OneStable; Closed and Disclosable; WellFormed and PolicyRefused with their parts; Gives; Unlocks, Missing, FirstMissing and Preferred; SoundSession,
+-- OneStable; Closed and Disclosable; WellFormed and PolicyRefused with their parts; Gives; Unlocks, Missing, FirstMissing and Preferred; Before, place, First and Searched; SoundSession,
 -- SixteenBit and Finished with their parts; Opening, FreshFor and AcceptedRound; Linked, acceptedOf, Each, SomeRound, SomeNext, Asks, Final, Over and
 -- ByRound; askableCount and lackedCount; Licensed and Client; Visit; and the maps from the program's types (specs/Types of records, policy, model,
--- search, session and demands). That lent bytes are not written stands in each contract, and demand 3 of a whole list in that of `replay`.
+-- search, question, session and demands). That lent bytes are not written stands in each contract, and demand 3 of a whole list in that of `replay`.
 -- Assumes nothing.
 use mathlib.Core.Path.{_≡_}
 use mathlib.Core.List.{List}
@@ -16,7 +16,12 @@ use Rattle.records.specs.Theorems as records
 use Rattle.policy.specs.Theorems as policy
 use Rattle.evaluation.specs.Theorems as evaluation
 use Rattle.model.specs.Theorems as model
-use Rattle.preference.specs.Theorems as search
+use Rattle.preference.specs.Theorems as preference
+use Rattle.preference.specs.OrderTheorems.{OrderTheorems}
+use Rattle.preference.specs.Switching.{SwitchTheorems}
+use Rattle.relevance.specs.Theorems as relevance
+use Rattle.search.specs.Theorems as search
+use Rattle.question.specs.Theorems as question
 use Rattle.session.specs.Theorems as session
 use Rattle.session.specs.Rounds.{Move, begins, opening, round}
 use Rattle.session.specs.Sessions.{Session}
@@ -45,8 +50,17 @@ pub record Claims : Type 1 where
   pub arrays : evaluation.Theorems
   -- the model and the disclosable set of a policy, or its refusal; the askable credentials, which d and u count
   pub answers : model.Theorems
-  -- the preferred question: which one it is, and that the search by arrays gives it
+  -- the preferred question: which one it is, and that rules in arrays prefer the same
+  pub preferred : preference.Theorems
+  -- candidates by number: their order by cost, their places, what a search with a limit answers, and that the first by cost is the preferred question
+  pub orders : OrderTheorems
+  -- what a candidate tries
+  pub switches : SwitchTheorems
+  -- rules that bear on no answer may be left out
+  pub relevances : relevance.Theorems
+  -- what the answers of the search and of the question mean is one-to-one
   pub searches : search.Theorems
+  pub questions : question.Theorems
   -- the tests of a session, and what the program's sessions and outcomes mean
   pub sessions : session.Theorems
   -- what opening gives for each request, a 16-bit number

@@ -14,7 +14,7 @@ use Rattle.model.specs.Disclosure.{Askable, askable, disclosable}
 use Rattle.model.proofs.DisclosureLaws.{Low, askable-credential, askable-iff, disclosable-adds}
 use Rattle.preference.specs.Question.{Preferred, Question, chosen, noQuestion, opensWith}
 use Rattle.preference.specs.Theorems.{PreferredOf}
-use Rattle.preference.proofs.TheoremsProof as search
+use Rattle.preference.proofs.TheoremsProof as preference
 use Rattle.session.specs.Endings.{Ending, Policy, ask, conclude, deny, ending, grant, obtainable}
 
 -- ---- the ending, of a policy whose disclosure heads are credentials
@@ -111,7 +111,7 @@ module _ (pol : Policy) (low : Every Low (pol .disclosure)) (r P N : ℕ) where
     where
       go : (b : Bool) → unlocks (pol .access) r P ≡ b → (o : Option Question) → chosen (pol .access) r P D ≡ o → Says (conclude b o)
       go true e o f = e
-      go false e none f = (e, λ q w. true≢false (sym (w .opens) ∙ search.theorems .denied (pol .access) r P D D-lt .0 f q (way-asks q w)))
+      go false e none f = (e, λ q w. true≢false (sym (w .opens) ∙ preference.theorems .denied (pol .access) r P D D-lt .0 f q (way-asks q w)))
       go false e (some q) f = (
         e,
         record {
@@ -123,7 +123,7 @@ module _ (pol : Policy) (low : Every Low (pol .disclosure)) (r P N : ℕ) where
       )
         where
           F : PreferredOf (pol .access) r P D q
-          F = search.theorems .asked (pol .access) r P D D-lt q .0 f
+          F = preference.theorems .asked (pol .access) r P D D-lt q .0 f
 
           idle : q .asks ≡ empty → union P (q .asks) ≡ P
           idle z = ap (λ (x : ℕ). union P x) z ∙ union-empty P
@@ -134,7 +134,7 @@ module _ (pol : Policy) (low : Every Low (pol .disclosure)) (r P N : ℕ) where
   unfolding ending D
   ending-is-ask e q w f =
       ap (λ (b : Bool). conclude b (chosen (pol .access) r P D)) e
-      ∙ ap (conclude false) (search.theorems .asked (pol .access) r P D D-lt q .1 first)
+      ∙ ap (conclude false) (preference.theorems .asked (pol .access) r P D D-lt q .1 first)
     where
       first : PreferredOf (pol .access) r P D q
       first = record { inside = way-asks q w; unlocking = w .opens; first = λ x g t n. f x (way-within x g t) n }
