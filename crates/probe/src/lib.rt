@@ -74,23 +74,19 @@ fn accepted(
     ensures { λ r.
         ⌜ r ≡ acceptedReply (rulesOf accessKind (now (policy .entry))) request shown within (now (weights .entry)) limit ⌝ }
 {
-    let rules = access_rules(policy);
+    let mut heads = [1u64; 128];
+    let mut positive = [0u64; 128];
+    let mut negated = [0u64; 128];
+    let starts = access_rules(policy, &mut heads, &mut positive, &mut negated);
     let credentials = AtomSet::credentials(shown);
-    if unlocks(
-        &rules.heads,
-        &rules.positive,
-        &rules.negated,
-        &rules.starts,
-        request,
-        credentials,
-    ) {
+    if unlocks(&heads, &positive, &negated, &starts, request, credentials) {
         return OPEN;
     }
     found(
-        &rules.heads,
-        &rules.positive,
-        &rules.negated,
-        &rules.starts,
+        &heads,
+        &positive,
+        &negated,
+        &starts,
         request,
         shown,
         within,
