@@ -19,7 +19,7 @@ use evaluation::layout::access_rules;
 use evaluation::levels::unlocks;
 use policy::Checked;
 use policy::check;
-use question::members::members_of;
+use question::members::write_members;
 use search::answer::Answer;
 use search::candidate::switched;
 use search::first;
@@ -113,7 +113,8 @@ fn found<'a>(
         ⌜ r ≡ foundReply (opensIn (now (heads .entry)) (now (positive .entry)) (now (negated .entry)) (now (starts .entry)) request shown)
         within (now (weights .entry)) limit ⌝ }
 {
-    let members = members_of(within);
+    let mut members = [0u16; 16];
+    write_members(&mut members, within);
     let count = AtomSet::credentials(within).count() as usize;
     let most = limit as usize;
     let answer = first(
