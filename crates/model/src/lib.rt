@@ -60,15 +60,12 @@ fn model_of(policy: &[u8], credentials: u16) -> AtomSet
     requires { ⌜ WellFormed (now policy) ⌝ }
     ensures { λ r. ⌜ r .bits ≡ model (rulesOf accessKind (now (policy .entry))) credentials ⌝ }
 {
-    let rules = access_rules(policy);
+    let mut heads = [1u64; 128];
+    let mut positive = [0u64; 128];
+    let mut negated = [0u64; 128];
+    let starts = access_rules(policy, &mut heads, &mut positive, &mut negated);
     let shown = AtomSet::credentials(credentials);
-    evaluate(
-        &rules.heads,
-        &rules.positive,
-        &rules.negated,
-        &rules.starts,
-        shown,
-    )
+    evaluate(&heads, &positive, &negated, &starts, shown)
 }
 
 // The disclosable set of an accepted policy.

@@ -19,7 +19,7 @@ use evaluation::layout::access_rules;
 use evaluation::levels::unlocks;
 use policy::Checked;
 use policy::check;
-use question::members::members_of;
+use question::members::write_members;
 use search::answer::Answer;
 use search::candidate::switched;
 use search::first;
@@ -74,23 +74,19 @@ fn accepted(
     ensures { λ r.
         ⌜ r ≡ acceptedReply (rulesOf accessKind (now (policy .entry))) request shown within (now (weights .entry)) limit ⌝ }
 {
-    let rules = access_rules(policy);
+    let mut heads = [1u64; 128];
+    let mut positive = [0u64; 128];
+    let mut negated = [0u64; 128];
+    let starts = access_rules(policy, &mut heads, &mut positive, &mut negated);
     let credentials = AtomSet::credentials(shown);
-    if unlocks(
-        &rules.heads,
-        &rules.positive,
-        &rules.negated,
-        &rules.starts,
-        request,
-        credentials,
-    ) {
+    if unlocks(&heads, &positive, &negated, &starts, request, credentials) {
         return OPEN;
     }
     found(
-        &rules.heads,
-        &rules.positive,
-        &rules.negated,
-        &rules.starts,
+        &heads,
+        &positive,
+        &negated,
+        &starts,
         request,
         shown,
         within,
@@ -117,7 +113,8 @@ fn found<'a>(
         ⌜ r ≡ foundReply (opensIn (now (heads .entry)) (now (positive .entry)) (now (negated .entry)) (now (starts .entry)) request shown)
         within (now (weights .entry)) limit ⌝ }
 {
-    let members = members_of(within);
+    let mut members = [0u16; 16];
+    write_members(&mut members, within);
     let count = AtomSet::credentials(within).count() as usize;
     let most = limit as usize;
     let answer = first(

@@ -9,7 +9,7 @@ ghost use Rattle.preference.specs.Preference.{preferred};
 ghost use Rattle.preference.specs.Question.{candidates, keys, noQuestion};
 ghost use Rattle.question.specs.Types.{foundOf, questionIn};
 use atoms::AtomSet;
-use members::members_of;
+use members::write_members;
 use search::answer::Answer;
 use search::candidate::switched;
 use search::first;
@@ -41,7 +41,8 @@ pub fn preferred<'a>(
         ⌜ foundOf r ≡ preferred keys (opensIn (now (heads .entry)) (now (positive .entry)) (now (negated .entry)) (now (starts .entry)) request shown)
         (candidates within) ⌝ }
 {
-    let members = members_of(within);
+    let mut members = [0u16; 16];
+    write_members(&mut members, within);
     let count = AtomSet::credentials(within).count() as usize;
     let weights = [1u8; 16];
     let answer = first(

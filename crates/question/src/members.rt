@@ -1,11 +1,13 @@
 // The members of a set of credentials.
+ghost use mathlib.Core.Path.{_≡_};
+ghost use lib.ListN.{length};
 ghost use Rattle.preference.specs.Subsets.{MembersOf};
 
-// Each as a set of its own, the lowest first.
-pub fn members_of(set: u16) -> [u16; 16]
-    ensures { λ r. ⌜ MembersOf set r ⌝ }
+// Each as a set of its own, the lowest first, put into a lent array.
+pub fn write_members(members: &mut [u16; 16], set: u16)
+    requires { ⌜ length (now members) ≡ 16 ⌝ }
+    ensures { λ _. ⌜ MembersOf set (now (members .exit)) ⌝ }
 {
-    let mut members = [0u16; 16];
     let mut left = set as u32;
     let mut place: u32 = 1;
     let mut n: usize = 0;
@@ -16,5 +18,4 @@ pub fn members_of(set: u16) -> [u16; 16]
         left = left / 2;
         place = 2 * place;
     }
-    members
 }

@@ -23,29 +23,17 @@ pub(crate) fn ending(policy: &[u8], request: u16, shown: u16, declined: u16) -> 
     requires { ⌜ WellFormed (now policy) × Service request ⌝ }
     ensures { λ r. ⌜ endingOf r ≡ ending (policyOf (now (policy .entry))) request shown declined ⌝ }
 {
-    let rules = access_rules(policy);
+    let mut heads = [1u64; 128];
+    let mut positive = [0u64; 128];
+    let mut negated = [0u64; 128];
+    let starts = access_rules(policy, &mut heads, &mut positive, &mut negated);
     let service = request as u8;
     let credentials = AtomSet::credentials(shown);
-    if unlocks(
-        &rules.heads,
-        &rules.positive,
-        &rules.negated,
-        &rules.starts,
-        service,
-        credentials,
-    ) {
+    if unlocks(&heads, &positive, &negated, &starts, service, credentials) {
         return Ending::Grant;
     }
     let within = obtainable(policy, shown, declined);
-    let found = preferred(
-        &rules.heads,
-        &rules.positive,
-        &rules.negated,
-        &rules.starts,
-        service,
-        shown,
-        within,
-    );
+    let found = preferred(&heads, &positive, &negated, &starts, service, shown, within);
     concluded(found)
 }
 

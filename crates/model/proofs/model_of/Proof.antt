@@ -3,11 +3,12 @@ use denote.Ref.{now}
 use borrow.Author.Needs.{needs}
 use Rattle.atoms.proofs.ByteLaws.{slice-bytes}
 use Rattle.evaluation.proofs.AccessLaws.{laid-model-at}
+use Rattle.evaluation.proofs.HeadLaws.{room-start}
 use Rattle.model.proofs.model_of.Statement.{statement}
 use Rattle.model.proofs.model_of.Tie as tie
 
 access-rules-requires : tie.Need-access-rules-requires
-access-rules-requires c κs = search needs
+access-rules-requires c κs = (c .before .before .before .before .pre, room-start)
 
 credentials-requires : tie.Need-credentials-requires
 credentials-requires c κs = search needs
@@ -17,12 +18,11 @@ evaluate-requires c κs = search needs
 
 returns : tie.Need-returns
 returns c =
-    let k = c .before .before .before .before .before .before .before .before in
+    let k = c .before .before .before .before .before .before .before .before .before .before in
     let bytes = now (k .before .args .policy) in
-    let rules = c .before .before .before .before .before .before .before .access-rules in
-    laid-model-at bytes (slice-bytes bytes (k .shared-slice-known .given)) (k .before .pre) (rules .result .heads) (rules .result .positive)
-    (rules .result .negated) (rules .result .starts) (rules .ensures) _ _ _ (c .before .before .before .before .before .before .credentials .ensures)
-    (c .evaluate .ensures)
+    let rules = c .before .before .before .before .before .before .access-rules in
+    laid-model-at bytes (slice-bytes bytes (k .shared-slice-known .given)) (k .before .pre) _ _ _ _ (rules .ensures) _ _ _
+    (c .before .before .before .before .before .credentials .ensures) (c .evaluate .ensures)
 
 pub model-of-spec : {M : Type 1} → statement M
 model-of-spec = tie.close (tie.spec access-rules-requires credentials-requires evaluate-requires returns)

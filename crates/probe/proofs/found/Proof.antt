@@ -10,8 +10,8 @@ use borrow.Author.Needs.{needs}
 use Rattle.probe.proofs.found.Statement.{statement}
 use Rattle.probe.proofs.found.Tie as tie
 
-members-of-requires : tie.Need-members-of-requires
-members-of-requires c κs = search needs
+write-members-requires : tie.Need-write-members-requires
+write-members-requires c κs = search needs
 
 credentials-requires : tie.Need-credentials-requires
 credentials-requires c κs = search needs
@@ -24,9 +24,9 @@ cast-count c = search needs
 
 first-requires : tie.Need-first-requires
 first-requires c κs =
-    let s = c .before .before .before .before in
+    let s = c .before .before .before .before .before in
     let a = s .args in
-    let listed = c .before .before .before .members-of .ensures in
+    let listed = c .before .before .before .write-members .ensures in
     let sized = c .before .count .ensures ∙ ap size (c .before .before .credentials .ensures) in
     let all = counted (a .heads .now) (a .positive .now) (a .negated .now) (a .starts .now) (a .request) (a .shown) (a .within) (s .fits .within .fits) (s .pre .0 .1 .1) _ listed _ sized in
     let alone = locked (a .heads .now) (a .positive .now) (a .negated .now) (a .starts .now) (a .request) (a .shown) (a .within) (s .fits .within .fits) (s .pre .0 .1 .1) _ listed _ sized (s .pre .1) in
@@ -34,9 +34,9 @@ first-requires c κs =
 
 reply-requires : tie.Need-reply-requires
 reply-requires c κs =
-    let s = c .before .before .before .before .before .before in
+    let s = c .before .before .before .before .before .before .before in
     let a = s .args in
-    let listed = c .before .before .before .before .before .members-of .ensures in
+    let listed = c .before .before .before .before .before .write-members .ensures in
     let sized = c .before .before .before .count .ensures ∙ ap size (c .before .before .before .before .credentials .ensures) in
     let all = counted (a .heads .now) (a .positive .now) (a .negated .now) (a .starts .now) (a .request) (a .shown) (a .within) (s .fits .within .fits) (s .pre .0 .1 .1) _ listed _ sized in
     let few = within-limit _ _ _ _ (pow-pos _) (resultOf (c .before .first .result)) (c .before .first .ensures) in
@@ -44,9 +44,9 @@ reply-requires c κs =
 
 returns : tie.Need-returns
 returns c =
-    let s = c .before .before .before .before .before .before .before in
+    let s = c .before .before .before .before .before .before .before .before in
     let a = s .args in
-    let listed = c .before .before .before .before .before .before .members-of .ensures in
+    let listed = c .before .before .before .before .before .before .write-members .ensures in
     let sized = c .before .before .before .before .count .ensures ∙ ap size (c .before .before .before .before .before .credentials .ensures) in
     c .reply .ensures
     ∙ replies-found (a .heads .now) (a .positive .now) (a .negated .now) (a .starts .now) (a .request) (a .shown) (a .within) (s .fits .within .fits) (s .pre .0 .1 .1) _ listed _ sized _ _ _ (c .before .before .first .ensures)
@@ -55,7 +55,7 @@ pub found-spec : {M : Type 1} → statement M
 found-spec =
     tie.close
     (tie.spec
-    members-of-requires
+    write-members-requires
     credentials-requires
     count-requires
     cast-count

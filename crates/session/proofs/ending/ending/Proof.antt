@@ -2,6 +2,7 @@
 use mathlib.Core.Path.{_∙_}
 use denote.Ref.{now}
 use Rattle.atoms.proofs.ByteLaws.{slice-bytes}
+use Rattle.evaluation.proofs.HeadLaws.{room-start}
 use Rattle.question.specs.Types.{foundOf}
 use Rattle.session.proofs.ProgramLaws.{ends-found, ends-grant, locked-alone, obtainable-apart}
 use borrow.Author.Needs.{needs}
@@ -11,7 +12,7 @@ use Rattle.session.proofs.ending.ending.Statement.{statement}
 use Rattle.session.proofs.ending.ending.Tie as tie
 
 access-rules-requires : tie.Need-access-rules-requires
-access-rules-requires c κs = search needs
+access-rules-requires c κs = (c .before .before .before .before .pre .0, room-start)
 
 cast-service : tie.Need-cast-service
 cast-service c = search needs
@@ -24,31 +25,29 @@ unlocks-requires c κs = search needs
 
 returns : tie.Need-returns
 returns c =
-    let known = c .before .before .before .before .before .before .before .before .before in
+    let known = c .before .before .before .before .before .before .before .before .before .before .before in
     let a = known .before .args in
     let bytes = now (a .policy) in
-    let rules = c .before .before .before .before .before .before .before .before .access-rules in
+    let rules = c .before .before .before .before .before .before .before .access-rules in
     let u = c .before .unlocks in
-    ends-grant bytes (slice-bytes bytes (known .shared-slice-known .given)) (known .before .pre .0) (rules .result .heads) (rules .result .positive)
-    (rules .result .negated) (rules .result .starts) (rules .ensures) (a .request) (a .shown) (a .declined) _
-    (c .before .before .before .before .before .before .before .credentials .ensures) (u .result) (u .ensures) (c .if1 .taken)
+    ends-grant bytes (slice-bytes bytes (known .shared-slice-known .given)) (known .before .pre .0) _ _ _ _ (rules .ensures) (a .request) (a .shown) (a .declined) _
+    (c .before .before .before .before .before .before .credentials .ensures) (u .result) (u .ensures) (c .if1 .taken)
 
 obtainable-requires : tie.Need-obtainable-requires
 obtainable-requires c κs = search needs
 
 preferred-requires : tie.Need-preferred-requires
 preferred-requires c κs =
-    let known = c .before .before .before .before .before .before .before .before .before .before .before .before .before .before .before in
+    let known = c .before .before .before .before .before .before .before .before .before .before .before .before .before .before .before .before in
     let a = known .before .args in
     let bytes = now (a .policy) in
-    let rules = c .before .before .before .before .before .before .before .before .before .before .before .before .before .before .access-rules in
-    let u = c .before .before .before .before .before .before .before .unlocks in
-    let within = c .before .before .before .before .before .obtainable in (
+    let rules = c .before .before .before .before .before .before .before .before .before .before .before .before .access-rules in
+    let u = c .before .before .before .before .before .before .unlocks in
+    let within = c .before .before .before .before .obtainable in (
       (rules .ensures .placed, (omega (arith, known .before .pre .1), obtainable-apart (policyOf bytes) (a .shown) (a .declined) (within .result) (within .ensures))),
-      locked-alone bytes (slice-bytes bytes (known .shared-slice-known .given)) (known .before .pre .0) (rules .result .heads) (rules .result .positive)
-          (rules .result .negated) (rules .result .starts) (rules .ensures) (a .request) (a .shown) (a .declined) _
-          (c .before .before .before .before .before .before .before .before .before .before .before .before .before .credentials .ensures) (u .result) (u .ensures)
-          (c .before .before .before .before .before .before .if1 .left),
+      locked-alone bytes (slice-bytes bytes (known .shared-slice-known .given)) (known .before .pre .0) _ _ _ _ (rules .ensures) (a .request) (a .shown) (a .declined) _
+          (c .before .before .before .before .before .before .before .before .before .before .before .credentials .ensures) (u .result) (u .ensures)
+          (c .before .before .before .before .before .if1 .left),
     )
 
 concluded-requires : tie.Need-concluded-requires
@@ -56,18 +55,17 @@ concluded-requires c κs = search needs
 
 returns-2 : tie.Need-returns-2
 returns-2 c =
-    let known = c .before .before .before .before .before .before .before .before .before .before .before .before .before .before .before .before .before in
+    let known = c .before .before .before .before .before .before .before .before .before .before .before .before .before .before .before .before .before .before in
     let a = known .before .args in
     let bytes = now (a .policy) in
-    let rules = c .before .before .before .before .before .before .before .before .before .before .before .before .before .before .before .before .access-rules in
-    let u = c .before .before .before .before .before .before .before .before .before .unlocks in
-    let within = c .before .before .before .before .before .before .before .obtainable in
+    let rules = c .before .before .before .before .before .before .before .before .before .before .before .before .before .before .access-rules in
+    let u = c .before .before .before .before .before .before .before .before .unlocks in
+    let within = c .before .before .before .before .before .before .obtainable in
     let found = c .before .preferred in
     c .concluded .ensures
-    ∙ ends-found bytes (slice-bytes bytes (known .shared-slice-known .given)) (known .before .pre .0) (rules .result .heads) (rules .result .positive)
-    (rules .result .negated) (rules .result .starts) (rules .ensures) (a .request) (a .shown) (a .declined) _
-    (c .before .before .before .before .before .before .before .before .before .before .before .before .before .before .before .credentials .ensures) (u .result) (u .ensures)
-    (c .before .before .before .before .before .before .before .before .if1 .left) (within .result) (within .ensures) (foundOf (found .result)) (found .ensures)
+    ∙ ends-found bytes (slice-bytes bytes (known .shared-slice-known .given)) (known .before .pre .0) _ _ _ _ (rules .ensures) (a .request) (a .shown) (a .declined) _
+    (c .before .before .before .before .before .before .before .before .before .before .before .before .before .credentials .ensures) (u .result) (u .ensures)
+    (c .before .before .before .before .before .before .before .if1 .left) (within .result) (within .ensures) (foundOf (found .result)) (found .ensures)
 
 pub ending-spec : {M : Type 1} → statement M
 ending-spec =

@@ -1,19 +1,17 @@
--- `question::members::members_of` meets its contract. Assumes nothing.
-use Prim.Native.Nat.{ℕ}
-use lib.ListN.{length-replicate, replicate}
+-- `question::members::write_members` meets its contract. Assumes nothing.
 use Rattle.question.proofs.MemberLaws.{Listed, listed-all, listed-more, listed-none, listed-room}
 use native.Mathlib.Omega.{arith}
-use Rattle.question.proofs.members.members_of.Statement.{statement}
-use Rattle.question.proofs.members.members_of.Tie as tie
+use Rattle.question.proofs.members.write_members.Statement.{statement}
+use Rattle.question.proofs.members.write_members.Tie as tie
 
 abbrev Inv-loop : tie.InvT-loop
-Inv-loop set members₀ left₀ place₀ n₀ members left place n = Listed set members left place n
+Inv-loop members₀ set left₀ place₀ n₀ members left place n = Listed set members left place n
 
 abbrev μ-loop : tie.MeasureT-loop
-μ-loop set members₀ left₀ place₀ n₀ members left place n = left
+μ-loop members₀ set left₀ place₀ n₀ members left place n = left
 
 loop-holds : tie.Need-loop-holds Inv-loop μ-loop
-loop-holds c = listed-none (c .args .set) (replicate 16 0) (c .fits .set .fits) (length-replicate {A = ℕ} 16 0)
+loop-holds c = listed-none (c .args .set) _ (c .fits .set .fits) (c .pre)
 
 cast-members : tie.Need-cast-members Inv-loop μ-loop
 cast-members c = omega (arith, listed-room _ _ _ _ _ (c .before .loop .inv) (c .loop-test .taken) .1)
@@ -21,8 +19,8 @@ cast-members c = omega (arith, listed-room _ _ _ _ _ (c .before .loop .inv) (c .
 mul-members : tie.Need-mul-members Inv-loop μ-loop
 mul-members c = omega (arith, listed-room _ _ _ _ _ (c .before .loop .inv) (c .loop-test .taken) .0)
 
-array-write-members : tie.Need-array-write-members Inv-loop μ-loop
-array-write-members c = omega (arith, listed-room _ _ _ _ _ (c .before .loop .inv) (c .loop-test .taken) .0)
+element-write-members : tie.Need-element-write-members Inv-loop μ-loop
+element-write-members c = omega (arith, listed-room _ _ _ _ _ (c .before .loop .inv) (c .loop-test .taken) .0)
 
 cast-n : tie.Need-cast-n Inv-loop μ-loop
 cast-n c = omega arith
@@ -42,8 +40,8 @@ loop-again c = listed-more _ _ _ _ _ (c .before .loop .inv) (c .loop-test .taken
 returns : tie.Need-returns Inv-loop μ-loop
 returns c = listed-all _ _ _ _ _ (c .before .loop .inv) (c .before .before .fits .set .fits) (omega arith)
 
-pub members-of-spec : {M : Type 1} → statement M
-members-of-spec =
+pub write-members-spec : {M : Type 1} → statement M
+write-members-spec =
     tie.close
     (tie.spec
     Inv-loop
@@ -51,7 +49,7 @@ members-of-spec =
     loop-holds
     cast-members
     mul-members
-    array-write-members
+    element-write-members
     cast-n
     add-n
     mul-place
