@@ -1,11 +1,11 @@
 -- The order of cost over the subsets of D: by weight, size and number; with equal weights the first is the preferred question. Assumes nothing.
 use mathlib.Core.Path.{_∙_, _≡_, ap, refl, subst, sym}
-use mathlib.Core.Logic.{_↔_, _⊎_, inl, inr}
+use mathlib.Core.Logic.{_↔_, _≢_, inl, inr}
 use mathlib.Core.Bool.{Bool, false, true, true≢false}
 use mathlib.Core.Option.{Option, none, some}
 use Prim.Native.Nat.{_*_, _+_, _<_, _^_, _≤_, ℕ}
 use lib.Pow.{pow-mono}
-use native.Mathlib.Decide.{decLt, ℕ-discrete}
+use native.Mathlib.Decide.{decLt}
 use native.Mathlib.Omega.{arith}
 use Rattle.atoms.specs.Sets.{Subset, size}
 use Rattle.atoms.proofs.SizeLaws.{size-credentials}
@@ -13,10 +13,10 @@ use Rattle.preference.specs.Preference.{lexBefore, preferred}
 use Rattle.preference.specs.Question.{Question, candidates, keys}
 use Rattle.preference.specs.Order.{Before, First, costOf, firstOf}
 use Rattle.preference.specs.Subsets.{subsetOf, total, weightsOf}
-use Rattle.preference.specs.OrderTheorems.{Lighter, equalWeights, questionAt, questionOf}
+use Rattle.preference.specs.OrderTheorems.{Lighter, LightestOf, equalWeights, questionAt, questionFor}
 use Rattle.preference.proofs.CostLaws.{weight-equal}
 use Rattle.preference.proofs.NumberLaws.{in-all, in-inside, in-lt, in-rising, in-size, in-weights, ones-size}
-use Rattle.preference.proofs.OrderLaws.{first-none, first-some}
+use Rattle.preference.proofs.OrderLaws.{Compared, alike, compare, first, first-none, first-some, second}
 use Rattle.preference.proofs.QuestionLaws.{none-preferred, not-before, one-preferred}
 
 module _ (D : ℕ) (l : D < 2 ^ 16) where
@@ -70,6 +70,22 @@ module _ (D : ℕ) (l : D < 2 ^ 16) where
         back (inr (e, inl h)) = inl (omega (arith, a .0, b .0))
         back (inr (e, inr (s, h))) = inr (omega (arith, a .0, b .0), falling m n i h)
 
+  -- the first that passes is lighter than every other
+  pub lightest-first : (w : ℕ → ℕ) (test : Question → Bool) (n : ℕ)
+      → firstOf (costOf (weightsOf w D)) (λ n. test (questionAt D n)) (2 ^ size D) ≡ some n → LightestOf w test D (subsetOf D n)
+  lightest-first w test n e = record { inside = in-inside 16 D n; passes = f .passes; first = λ Y i t d. other Y t d (all Y i) }
+    where
+      f : First (costOf (weightsOf w D)) (λ n. test (questionAt D n)) (2 ^ size D) n
+      f = first-some (costOf (weightsOf w D)) (λ n. test (questionAt D n)) (2 ^ size D) n e
+
+      other : (Y : ℕ) → test (record { asks = Y }) ≡ true → Y ≢ subsetOf D n → (m : ℕ) × (m < 2 ^ size D) × (subsetOf D m ≡ Y) → Lighter w (subsetOf D n) Y
+      other Y t d (m, l, is) = go (compare (costOf (weightsOf w D)) m n)
+        where
+          go : Compared (costOf (weightsOf w D)) m n → Lighter w (subsetOf D n) Y
+          go (first b) = absurd (true≢false (sym t ∙ ap (λ (y : ℕ). test (record { asks = y })) (sym is) ∙ f .first m l b))
+          go (alike a) = absurd (d (sym is ∙ ap (subsetOf D) a))
+          go (second b) = subst (λ (y : ℕ). Lighter w (subsetOf D n) y) is (lightest w n m (f .inside) l .0 b)
+
   -- ---- equal weights
 
   module _ (test : Question → Bool) where
@@ -100,10 +116,10 @@ module _ (D : ℕ) (l : D < 2 ^ 16) where
         smaller : x .asks < subsetOf D n → o .0 < n
         smaller h = falling (o .0) n (o .1) (omega (arith, o .2))
 
-    pub by-cost : questionOf D (firstOf (costOf equalWeights) (λ n. test (questionAt D n)) (2 ^ size D)) ≡ preferred keys test (candidates D)
+    pub by-cost : questionFor D (firstOf (costOf equalWeights) (λ n. test (questionAt D n)) (2 ^ size D)) ≡ preferred keys test (candidates D)
     by-cost = go (firstOf (costOf equalWeights) (λ n. test (questionAt D n)) (2 ^ size D)) refl
       where
-        go : (a : Option ℕ) → firstOf (costOf equalWeights) (λ n. test (questionAt D n)) (2 ^ size D) ≡ a → questionOf D a ≡ preferred keys test (candidates D)
+        go : (a : Option ℕ) → firstOf (costOf equalWeights) (λ n. test (questionAt D n)) (2 ^ size D) ≡ a → questionFor D a ≡ preferred keys test (candidates D)
         go none e =
             sym (none-preferred test D l (λ q i.
             let o = all (q .asks) i in

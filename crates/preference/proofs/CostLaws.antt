@@ -1,18 +1,19 @@
--- The cost of a candidate: by its low and its high members, and at most so much. Assumes nothing.
+-- The cost of a candidate, by its low and its high members. Assumes nothing.
 use mathlib.Core.Path.{_∙_, _≡_, ap, refl, sym}
 use mathlib.Core.List.{List, [], _∷_}
 use Prim.Native.Nat.{_%_, _*_, _+_, _/_, _<_, _^_, _≤_, suc, zero, ℕ}
-use lib.Arith.{lt-one}
 use lib.Count.{ones, ones-cat, onesIn}
-use lib.ListN.{drop, getD, replicate}
+use lib.ListN.{drop, getD, length, replicate}
 use lib.Pow.{field, high, low, mod-mod-pow, pow-pos, shr-shr, split}
 use lib.Seq.{getD-drop}
-use native.Mathlib.Nat.{div-le-self, mod-le, mod-lt, one-mul, pow-suc}
+use native.Mathlib.Nat.{div-le-self, mod-le, mod-lt, one-mul}
 use native.Mathlib.Numerals.{add-one, one-add}
 use native.Mathlib.Omega.{arith}
-use Rattle.atoms.specs.Sets.{size}
-use Rattle.atoms.proofs.SizeLaws.{size-credentials, size-is}
-use Rattle.preference.specs.Order.{costOf, weightOf}
+use Rattle.atoms.specs.Sets.{bit, size}
+use Rattle.atoms.proofs.SetLaws.{bit-first, bit-next}
+use Rattle.atoms.proofs.SizeLaws.{size-is}
+use Rattle.preference.specs.Order.{costOf, sum, weightOf}
+use Rattle.preference.proofs.SumLaws.{sum-same, sum-shift}
 
 -- ---- weights
 
@@ -48,18 +49,15 @@ weight-add j ws r l =
     let b : (2 ^ j + r) / 2 ^ j ≡ 1 = ap (λ (x : ℕ). x / 2 ^ j) (sym e) ∙ high 1 j l in
     weight-split j ws (2 ^ j + r) ∙ rw (a, b, weight-first (drop j ws), getD-drop j ws 0 0) (ap (λ (x : ℕ). weightOf ws r + getD ws x 0) (omega arith))
 
-once : (x w : ℕ) → x < 2 → x * w ≤ w
-once zero w l = omega arith
-once (suc zero) w l = omega arith
-once (suc (suc x)) w l = absurd (omega arith)
-
--- k members weigh at most so much
-pub weight-most : (k : ℕ) (ws : List ℕ) (n : ℕ) → n < 2 ^ k → ((j : ℕ) → getD ws j 0 ≤ 255) → weightOf ws n ≤ 255 * k
-unfolding weightOf
-weight-most k [] n l h = omega arith
-weight-most zero (w ∷ ws) n l h = omega (arith, ap (weightOf (w ∷ ws)) (lt-one l), weight-empty (w ∷ ws))
-weight-most (suc k) (w ∷ ws) n l h =
-    omega (arith, once (n % 2) w (omega arith), h 0, weight-most k ws (n / 2) (omega (arith, pow-suc 2 k)) (λ j. h (suc j)))
+-- the sum over the members
+pub weight-means : (ws : List ℕ) (n : ℕ) → weightOf ws n ≡ sum (λ j. bit n j * getD ws j 0) (length ws)
+unfolding weightOf sum
+weight-means [] n = refl
+weight-means (w ∷ ws) n =
+    let first : bit n 0 * w ≡ n % 2 * w = ap (λ (x : ℕ). x * w) (bit-first n) in
+    let rest : sum (λ j. bit (n / 2) j * getD ws j 0) (length ws) ≡ sum (λ j. bit n (suc j) * getD ws j 0) (length ws) =
+    sum-same (λ j. bit (n / 2) j * getD ws j 0) (λ j. bit n (suc j) * getD ws j 0) (length ws) (λ j _. ap (λ (x : ℕ). x * getD ws j 0) (sym (bit-next n j))) in
+    omega (arith, weight-means ws (n / 2), first, rest, sum-shift (λ j. bit n j * getD (w ∷ ws) j 0) (length ws))
 
 -- where each weighs 1, as much as there are members
 pub weight-equal : (k n : ℕ) → weightOf (replicate k 1) n ≡ onesIn k n
@@ -86,8 +84,3 @@ cost-empty ws = omega (arith, weight-empty ws)
 pub cost-split : (k : ℕ) (ws : List ℕ) (n : ℕ) → n < 2 ^ 64 → costOf ws n ≡ costOf ws (n % 2 ^ k) + costOf (drop k ws) (n / 2 ^ k)
 unfolding costOf
 cost-split k ws n l = omega (arith, weight-split k ws n, size-split k n l)
-
--- at most so much
-pub cost-most : (ws : List ℕ) (n : ℕ) → n < 2 ^ 16 → ((j : ℕ) → getD ws j 0 ≤ 255) → costOf ws n ≤ 69376
-unfolding costOf
-cost-most ws n l h = omega (arith, weight-most 16 ws n l h, size-credentials n l)

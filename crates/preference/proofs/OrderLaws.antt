@@ -239,3 +239,27 @@ no-limit cost test N limit l = go (firstOf cost test N) refl
     go (some n) e =
         let k : place cost N n ≤ limit = omega (arith, place-most cost N n (first-some cost test N n e .inside)) in
         simp (le-ltb _ _ k)
+
+-- ---- at the limit, and below it
+
+module _ (cost : ℕ → ℕ) (test : ℕ → Bool) (N : ℕ) where
+  module _ (n : ℕ) (f : First cost test N n) where
+    some : 0 < N
+    some = let l = f .inside in omega arith
+
+    pub at-the-limit : searched cost test N (place cost N n) ≡ found n (place cost N n)
+    at-the-limit = searched-means cost test N (place cost N n) some (found n (place cost N n)) .1 (f, refl, omega arith)
+
+    pub below-it : (limit : ℕ) → limit < place cost N n → searched cost test N limit ≡ spent
+    below-it limit l =
+        searched-means cost test N limit some spent .1 (
+          (λ m k i. f .first m k (places cost N m n k (f .inside) .0 (omega arith))),
+          omega (arith, place-most cost N n (f .inside)),
+        )
+
+  module _ (none-passes : (m : ℕ) → m < suc N → test m ≡ false) where
+    pub all-tried : searched cost test (suc N) N ≡ nothing N
+    all-tried = searched-means cost test (suc N) N (omega arith) (nothing N) .1 (none-passes, omega arith, omega arith)
+
+    pub not-all-tried : (limit : ℕ) → limit < N → searched cost test (suc N) limit ≡ spent
+    not-all-tried limit l = searched-means cost test (suc N) limit (omega arith) spent .1 ((λ m k _. none-passes m k), omega arith)

@@ -61,3 +61,9 @@ sum-start f = refl
 pub sum-next : (f : ℕ → ℕ) (n : ℕ) → sum f (n + 1) ≡ sum f n + f n
 unfolding sum
 sum-next f n = rw add-one
+
+-- the first apart
+pub sum-shift : (f : ℕ → ℕ) (n : ℕ) → sum f (suc n) ≡ f 0 + sum (λ k. f (suc k)) n
+unfolding sum
+sum-shift f zero = omega arith
+sum-shift f (suc n) = omega (arith, sum-shift f n)

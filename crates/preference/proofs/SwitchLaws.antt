@@ -1,13 +1,14 @@
 -- What a candidate tries is the base and its members, exclusive or. Assumes nothing.
-use mathlib.Core.Path.{_∙_, _≡_, ap, subst, sym}
+use mathlib.Core.Path.{_∙_, _≡_, ap, refl, subst, sym}
 use mathlib.Core.Logic.{_⊎_, inl, inr}
 use mathlib.Core.Bool.{Bool, cond, false, true}
-use mathlib.Core.List.{List}
+use mathlib.Core.List.{List, [], _∷_}
 use Prim.Native.Nat.{_-_, _<_, max, suc, zero, ℕ}
 use lib.Bits.{bitXor, xor-zero-r}
+use lib.Count.{onesIn}
 use lib.ListN.{getD}
 use native.Mathlib.Omega.{arith}
-use Rattle.atoms.specs.Sets.{Member, bit, difference, disjoint, member, single, union}
+use Rattle.atoms.specs.Sets.{Member, bit, difference, disjoint, member, single, size, union}
 use Rattle.atoms.proofs.SetLaws.{bit-union, disjoint-true, ext, in-or-out, member-single, none-in-empty, not-in, union-cases}
 use Rattle.evaluation.specs.Arrays.{OneAtom, atomOf}
 use Rattle.preference.specs.Candidates.{Different, Members, switched, taken}
@@ -75,8 +76,34 @@ xor-apart a b e = ext (λ k. at k (in-or-out b k) (disjoint-true a b e k))
     at k (inl m) f = bit-xor-in a b k m ∙ omega (arith, bit-union a b k, not-in a k (λ h. f h m))
     at k (inr z) f = bit-xor-out a b k z ∙ omega (arith, bit-union a b k)
 
+one-2 : OneAtom 2
+unfolding size onesIn
+one-2 = refl
+
+one-4 : OneAtom 4
+unfolding size onesIn
+one-4 = refl
+
+falling : (Members (4 ∷ 2 ∷ []) 2 × Different (4 ∷ 2 ∷ []) 2) × (switched 5 (4 ∷ 2 ∷ []) 2 3 ≡ 3)
+unfolding switched
+falling = (((omega arith, each), different), refl)
+  where
+    each : (j : ℕ) → j < 2 → OneAtom (getD (4 ∷ 2 ∷ []) j 0)
+    each zero l = one-4
+    each (suc zero) l = one-2
+    each (suc (suc j)) l = absurd (omega arith)
+
+    different : (i j : ℕ) → i < j → j < 2 → getD (4 ∷ 2 ∷ []) i 0 ≡ getD (4 ∷ 2 ∷ []) j 0 → ⊥
+    different zero (suc zero) u v e = omega arith
+    different zero zero u v e = omega arith
+    different zero (suc (suc j)) u v e = omega arith
+    different (suc i) zero u v e = omega arith
+    different (suc i) (suc zero) u v e = omega arith
+    different (suc i) (suc (suc j)) u v e = omega arith
+
 pub theorems : SwitchTheorems
 theorems = record {
+  falling = falling;
   switched-means = λ base members count n m d. switched-xor base members count n (m .1) d ∙ xor-is base (taken members count n);
   put-in = λ base members count n m d e. switched-xor base members count n (m .1) d ∙ xor-apart base (taken members count n) e;
 }

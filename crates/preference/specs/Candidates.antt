@@ -1,4 +1,4 @@
--- Candidates are numbers: bit j of one takes member j, which is the set of one credential. Assumes nothing.
+-- Candidates are numbers: bit j of one takes member j, which is the set of one atom. Assumes nothing.
 use mathlib.Core.Path.{_≡_}
 use mathlib.Core.Bool.{cond}
 use mathlib.Core.List.{List}

@@ -3,7 +3,7 @@
 use mathlib.Core.Path.{_≡_}
 use mathlib.Core.Logic.{_⊎_}
 use mathlib.Core.Bool.{Bool, cond, false, true}
-use mathlib.Core.List.{List, [], _++_, _∷_}
+use mathlib.Core.List.{List, [], _∷_}
 use mathlib.Core.Option.{Option, none, some}
 use Prim.Native.Nat.{_%_, _*_, _+_, _-_, _/_, _<_, _≤_, suc, zero, ℕ}
 use lib.Dec.{ltb}
@@ -38,7 +38,7 @@ pub data Result : Type 0 where
   -- the limit came first
   spent : Result
 
--- how many candidates are tried for it, the empty one apart
+-- how many candidates are tried for it, the empty one apart; of `spent` there is no number to tell
 abbrev pub trials : Result → ℕ
 trials (found n p) = p
 trials (nothing t) = t
@@ -56,7 +56,7 @@ module _ (cost : ℕ → ℕ) where
   unfoldable pub before : ℕ → ℕ → Bool
   before m n = lexBefore (costKeys m) (costKeys n)
 
-  -- the place of n: how many of the candidates below N come before it. The empty candidate costs nothing, so its place is 0.
+  -- the place of n: how many of the candidates below N come before it. Where the empty candidate costs nothing, its place is 0.
   unfoldable pub place : ℕ → ℕ → ℕ
   place N n = sum (λ m. cond (before m n) 1 0) N
 

@@ -1,15 +1,15 @@
 -- The theorems of the order: what is computed is what is meant, and the first candidate by cost is the preferred question. Assumes nothing.
 use mathlib.Core.Path.{_≡_}
 use mathlib.Core.Logic.{_↔_, _⊎_, _≢_}
-use mathlib.Core.Bool.{Bool, true}
+use mathlib.Core.Bool.{Bool, false, true}
 use mathlib.Core.List.{List}
 use mathlib.Core.Option.{Option, none, some}
-use Prim.Native.Nat.{_<_, _^_, _≤_, ℕ}
-use lib.ListN.{replicate}
-use Rattle.atoms.specs.Sets.{Subset, size}
+use Prim.Native.Nat.{_*_, _<_, _^_, _≤_, suc, ℕ}
+use lib.ListN.{getD, length, replicate}
+use Rattle.atoms.specs.Sets.{Subset, bit, size}
 use Rattle.preference.specs.Preference.{preferred}
 use Rattle.preference.specs.Question.{Question, candidates, keys}
-use Rattle.preference.specs.Order.{Before, Result, Searched, before, costOf, firstOf, place, searched, spent, weightOf}
+use Rattle.preference.specs.Order.{Before, First, Result, Searched, before, costOf, firstOf, found, nothing, place, searched, spent, sum, weightOf}
 use Rattle.preference.specs.Subsets.{subsetOf, total, weightsOf}
 
 -- "The preferred set has the least total weight, then the fewest credentials, then the smallest number." (document 02, R-2), where credential k weighs w k
@@ -24,9 +24,15 @@ equalWeights = replicate 16 1
 abbrev pub questionAt : ℕ → ℕ → Question
 questionAt D n = record { asks = subsetOf D n }
 
-abbrev pub questionOf : ℕ → Option ℕ → Option Question
-questionOf D none = none
-questionOf D (some n) = some (questionAt D n)
+abbrev pub questionFor : ℕ → Option ℕ → Option Question
+questionFor D none = none
+questionFor D (some n) = some (questionAt D n)
+
+-- of the subsets of D that pass a test, X is the one that is lighter than every other
+pub record LightestOf (w : ℕ → ℕ) (test : Question → Bool) (D X : ℕ) : Type 0 where
+  pub inside : Subset X D
+  pub passes : test (record { asks = X }) ≡ true
+  pub first : (Y : ℕ) → Subset Y D → test (record { asks = Y }) ≡ true → Y ≢ X → Lighter w X Y
 
 pub record OrderTheorems : Type 0 where
   pub before-means : (cost : ℕ → ℕ) (m n : ℕ) → (before cost m n ≡ true) ↔ Before cost m n
@@ -39,6 +45,13 @@ pub record OrderTheorems : Type 0 where
   -- each answer of a search is given exactly where it is meant
   pub searched-means : (cost : ℕ → ℕ) (test : ℕ → Bool) (N : ℕ) → 0 < N → (limit : ℕ) (a : Result)
       → (searched cost test N limit ≡ a) ↔ Searched cost test N limit a
+  -- "A round with a limit below its trials answers "spent"" (document 02, R-9): at the place of the first it is found, below it spent
+  pub at-the-limit : (cost : ℕ → ℕ) (test : ℕ → Bool) (N n : ℕ) → First cost test N n → searched cost test N (place cost N n) ≡ found n (place cost N n)
+  pub below-it : (cost : ℕ → ℕ) (test : ℕ → Bool) (N n limit : ℕ) → First cost test N n → limit < place cost N n → searched cost test N limit ≡ spent
+  -- where none passes, "all of them": as many as there are beside the empty one
+  pub all-tried : (cost : ℕ → ℕ) (test : ℕ → Bool) (N : ℕ) → ((m : ℕ) → m < suc N → test m ≡ false) → searched cost test (suc N) N ≡ nothing N
+  pub not-all-tried : (cost : ℕ → ℕ) (test : ℕ → Bool) (N limit : ℕ) → ((m : ℕ) → m < suc N → test m ≡ false) → limit < N
+      → searched cost test (suc N) limit ≡ spent
   -- "A larger limit never changes an answer other than "spent"." (document 02, R-9)
   pub larger : (cost : ℕ → ℕ) (test : ℕ → Bool) (N : ℕ) → 0 < N → (limit limit' : ℕ) → limit ≤ limit' → searched cost test N limit ≢ spent
       → searched cost test N limit' ≡ searched cost test N limit
@@ -46,12 +59,19 @@ pub record OrderTheorems : Type 0 where
   pub inside : (D n : ℕ) → Subset (subsetOf D n) D
   pub all : (D X : ℕ) → D < 2 ^ 16 → Subset X D → (n : ℕ) × (n < 2 ^ size D) × (subsetOf D n ≡ X)
   pub rising : (D m n : ℕ) → D < 2 ^ 16 → n < 2 ^ size D → m < n → subsetOf D m < subsetOf D n
+  -- weights are summed up over the members
+  pub weight-means : (ws : List ℕ) (n : ℕ) → weightOf ws n ≡ sum (λ j. bit n j * getD ws j 0) (length ws)
+  pub total-means : (w : ℕ → ℕ) (X : ℕ) → total w X ≡ sum (λ k. bit X k * w k) 16
+  pub equal-weights : (j : ℕ) → j < 16 → getD equalWeights j 0 ≡ 1
   -- a candidate weighs what its set weighs, and has as many members
   pub weighed : (w : ℕ → ℕ) (D n : ℕ) → weightOf (weightsOf w D) n ≡ total w (subsetOf D n)
   pub sized : (D n : ℕ) → D < 2 ^ 16 → n < 2 ^ size D → size (subsetOf D n) ≡ size n
   -- the order of cost is that of weight, size and number
   pub lightest : (w : ℕ → ℕ) (D m n : ℕ) → D < 2 ^ 16 → m < 2 ^ size D → n < 2 ^ size D
       → Before (costOf (weightsOf w D)) m n ↔ Lighter w (subsetOf D m) (subsetOf D n)
+  -- the first by cost is the lightest that passes
+  pub lightest-first : (w : ℕ → ℕ) (test : Question → Bool) (D n : ℕ) → D < 2 ^ 16
+      → firstOf (costOf (weightsOf w D)) (λ n. test (questionAt D n)) (2 ^ size D) ≡ some n → LightestOf w test D (subsetOf D n)
   -- "among subsets of D that with P unlock the request, the preferred one is asked": the first by cost, whatever the test
   pub by-cost : (test : Question → Bool) (D : ℕ) → D < 2 ^ 16
-      → questionOf D (firstOf (costOf equalWeights) (λ n. test (questionAt D n)) (2 ^ size D)) ≡ preferred keys test (candidates D)
+      → questionFor D (firstOf (costOf equalWeights) (λ n. test (questionAt D n)) (2 ^ size D)) ≡ preferred keys test (candidates D)

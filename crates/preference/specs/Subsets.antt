@@ -10,12 +10,12 @@ abbrev pub pick : {A : Type 0} → ℕ → A → A → A
 pick zero out in' = out
 pick (suc _) out in' = in'
 
--- the same of the first k credentials
+-- subset number n of D, where only the first k credentials are read
 unfoldable pub subsetIn : ℕ → ℕ → ℕ → ℕ
 subsetIn zero D n = 0
 subsetIn (suc k) D n = pick (D % 2) (2 * subsetIn k (D / 2) n) (n % 2 + 2 * subsetIn k (D / 2) (n / 2))
 
--- subset number n of D
+-- the same of all 16
 abbrev pub subsetOf : ℕ → ℕ → ℕ
 subsetOf D n = subsetIn 16 D n
 

@@ -14,7 +14,7 @@ use Rattle.evaluation.specs.Unlocking.{grants}
 use Rattle.preference.specs.Candidates.{Members, switched, taken}
 use Rattle.preference.specs.InArrays.{opensAt, opensIn}
 use Rattle.preference.specs.Order.{Result, costOf, firstOf, found, nothing, searched, spent, unlimited}
-use Rattle.preference.specs.OrderTheorems.{equalWeights, questionAt, questionOf}
+use Rattle.preference.specs.OrderTheorems.{equalWeights, questionAt, questionFor}
 use Rattle.preference.specs.Preference.{preferred}
 use Rattle.preference.specs.Question.{Question, candidates, keys, noQuestion}
 use Rattle.preference.specs.Subsets.{MembersOf, subsetOf}
@@ -88,7 +88,7 @@ module _ (h p m s : List ℕ) (r P D : ℕ) (l : D < 2 ^ 16) (apart : disjoint P
             ap (λ (x : ℕ). some (record { asks = x }))
             (ap (λ (x : ℕ). switched 0 members x n) is ∙ asks n ∙ ap (subsetOf D) d)
 
-        go : (a : Answer) (o : Option ℕ) → resultOf a ≡ given o → questionIn members count a ≡ questionOf D o
+        go : (a : Answer) (o : Option ℕ) → resultOf a ≡ given o → questionIn members count a ≡ questionFor D o
         go (Found n q) (some k) f = question n k (cc)
         go (Found n q) none f = absurd (let z : _≡_ {A = ℕ} 0 1 = cc in omega arith)
         go (Nothing q) (some k) f = absurd (let z : _≡_ {A = ℕ} 0 1 = cc in omega arith)

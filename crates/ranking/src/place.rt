@@ -103,7 +103,7 @@ fn half(bounds: Bounds, middle: u32, past: bool) -> Bounds
     }
 }
 
-// The least key of a block whose first candidate stands past the limit, or NEVER where not even that of the last block does.
+// From this key on the first candidate of a block stands past the limit; NEVER where not even that of the last block does.
 pub fn bar<'a>(
     low: &'a [u32; 256],
     lanes: usize,

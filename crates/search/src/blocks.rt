@@ -1,4 +1,5 @@
-// The candidates of many members, 256 at a time. Blocks are taken in order of their own keys, which no key of a candidate in them is below.
+// The candidates of many members, 256 at a time. Blocks are taken in order of their own keys: the key of a candidate is at least 256 times that of its
+// block.
 ghost use mathlib.Core.Path.{_≡_};
 ghost use Prim.Native.Nat.{ℕ, _*_, _+_, _-_, _<_, _^_, _≤_, min};
 ghost use lib.ListN.{getD, length};

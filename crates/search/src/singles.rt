@@ -1,4 +1,4 @@
-// The candidates of few members, one by one in order.
+// The candidates of few members, one by one.
 ghost use mathlib.Core.Path.{_≡_};
 ghost use mathlib.Core.Bool.{false};
 ghost use Prim.Native.Nat.{_<_, _^_, _≤_};
