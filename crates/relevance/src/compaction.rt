@@ -3,8 +3,8 @@ ghost use mathlib.Core.Path.{_≡_};
 ghost use Prim.Native.Nat.{_+_, _<_, _≤_};
 ghost use Rattle.evaluation.specs.Arrays.{Heads, OneAtom, Placed};
 ghost use Rattle.relevance.specs.Places.{KeptIn, Moved, roomBefore, room};
+use crate::LevelRules;
 use atoms::AtomSet;
-use evaluation::layout::LevelRules;
 
 // Each rule is written at the next place, which moves on if the rule is kept.
 pub(crate) fn kept_rules<'a>(

@@ -2,11 +2,18 @@
 ghost use Rattle.evaluation.specs.Arrays.{Placed};
 ghost use Rattle.relevance.specs.Places.{SameAnswer};
 use compaction::kept_rules;
-use evaluation::layout::LevelRules;
 use reach::relevant;
 
 mod compaction;
 mod reach;
+
+// The rules of level l are at places starts[l] to starts[l + 1].
+pub struct LevelRules {
+    pub heads: [u64; 128],
+    pub positive: [u64; 128],
+    pub negated: [u64; 128],
+    pub starts: [usize; 10],
+}
 
 // The rules whose heads the request or atom 63 depends on, in the same order and on the same levels.
 pub fn relevant_rules<'a>(
