@@ -1,10 +1,11 @@
 -- The theorems that a customer reads, on one page; proofs/ClaimsProof has them all. What they leave to belief is that the words in which they are
 -- stated say what the paper says: Member and Subset; readRecord, recordAt, rulesOf and level; Levelled, BodyHolds, ClosedBeside, Least and
--- OneStable; Closed and Disclosable; WellFormed and PolicyRefused with their parts; Gives; Unlocks, Missing, FirstMissing and Preferred; Before, place, First and Searched; SoundSession,
--- SixteenBit and Finished with their parts; Opening, FreshFor and AcceptedRound; Linked, acceptedOf, Each, SomeRound, SomeNext, Asks, Final, Over and
--- ByRound; askableCount and lackedCount; Licensed and Client; Visit; and the maps from the program's types (specs/Types of records, policy, model,
--- search, question, session and demands). That lent bytes are not written stands in each contract, and demand 3 of a whole list in that of `replay`.
--- Assumes nothing.
+-- OneStable; Closed and Disclosable; WellFormed and PolicyRefused with their parts; Gives; Unlocks, Missing, FirstMissing and Preferred; taken,
+-- switched, Members and Different; weightOf, costOf, Before, place, First and Searched; subsetOf, total and Lighter; Follows, Bearing, Relevant and
+-- SameAnswer; SoundSession, SixteenBit and Finished with their parts; Opening, FreshFor and AcceptedRound; Linked, acceptedOf, Each, SomeRound,
+-- SomeNext, Asks, Final, Over and ByRound; askableCount and lackedCount; Licensed and Client; Visit; and the maps from the program's types
+-- (specs/Types of records, policy, model, search, question, session and demands). That lent bytes are not written stands in the contract of each open
+-- function, and demand 3 of a whole list in that of `replay`. Assumes nothing.
 use mathlib.Core.Path.{_≡_}
 use mathlib.Core.List.{List}
 use Prim.Native.Nat.{_<_, _^_, ℕ}

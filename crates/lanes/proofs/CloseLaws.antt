@@ -10,7 +10,7 @@ use Rattle.rules.specs.Rules.{Rule}
 use Rattle.rules.proofs.LoopLaws.{pass-again, pass-idle, reached}
 use Rattle.evaluation.specs.Arrays.{rulesIn}
 use Rattle.lanes.specs.LaneSets.{EachLane}
-use Rattle.lanes.specs.Levels.{Reduced, Settled}
+use Rattle.lanes.specs.Levels.{Reduced, LevelClosed}
 use Rattle.lanes.specs.Passes.{Covers, Passed, Says, Stale}
 use Rattle.lanes.specs.Tables.{lane}
 use Rattle.lanes.specs.declared.passes.Progress.{Progress}
@@ -64,7 +64,7 @@ module _ (heads positive negated : List ℕ) (from to : ℕ) (before first : Lis
 
   pub settled : (after : List ℕ) (possible : ℕ) → length after ≡ 768 → Covers possible after
       → EachLane (λ t i. lane after t i ≡ settle (rulesIn heads positive negated from (to - from)) (lane first t i))
-      → Settled heads positive negated from (to - from) before after possible
+      → LevelClosed heads positive negated from (to - from) before after possible
   settled after possible len c h = record {
     long = len;
     covers = c;

@@ -7,7 +7,7 @@ use Rattle.rules.specs.LevelByLevel.{levelByLevel}
 use Rattle.evaluation.specs.Arrays.{evaluated, levelsIn}
 use Rattle.evaluation.proofs.ArrayLaws.{levels-done-at, levels-next-at}
 use Rattle.lanes.specs.LaneSets.{EachLane}
-use Rattle.lanes.specs.Levels.{Evaluated, Settled}
+use Rattle.lanes.specs.Levels.{Evaluated, LevelClosed}
 use Rattle.lanes.specs.Tables.{lane}
 
 -- ---- all levels: those from l on are left
@@ -21,7 +21,7 @@ module _ (heads positive negated starts : List ℕ) where
   evaluating-first table len = record { long = len; each = λ t i l n. refl }
 
   pub evaluating-next : (first table after : List ℕ) (l possible : ℕ) → l < 9 → Evaluating first table l
-      → Settled heads positive negated (getD starts l 0) (getD starts (l + 1) 0 - getD starts l 0) table after possible → Evaluating first after (l + 1)
+      → LevelClosed heads positive negated (getD starts l 0) (getD starts (l + 1) 0 - getD starts l 0) table after possible → Evaluating first after (l + 1)
   evaluating-next first table after l possible less c s = record {
     long = s .long;
     each = λ t i a b. levels-next-at heads positive negated starts l less (lane table t i) (lane after t i) _ (s .each t i a b) (c .each t i a b);

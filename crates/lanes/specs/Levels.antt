@@ -17,7 +17,7 @@ pub record Reduced (negated : List ℕ) (from to : ℕ) (before after : List ℕ
   pub says : EachLane (λ t i. (k : ℕ) → from ≤ k → k < to → member i (cell after t (64 + k)) ≡ disjoint (getD negated k 0) (lane before t i))
 
 -- one level
-pub record Settled (heads positive negated : List ℕ) (from n : ℕ) (before after : List ℕ) (possible : ℕ) : Type 0 where
+pub record LevelClosed (heads positive negated : List ℕ) (from n : ℕ) (before after : List ℕ) (possible : ℕ) : Type 0 where
   pub long : length after ≡ 768
   pub covers : Covers possible after
   pub each : EachLane (λ t i. lane after t i ≡ settle (rulesIn heads positive negated from n) (lane before t i))

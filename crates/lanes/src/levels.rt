@@ -3,7 +3,7 @@ ghost use mathlib.Core.Path.{_≡_};
 ghost use Prim.Native.Nat.{_-_, _≤_};
 ghost use lib.ListN.{length};
 ghost use Rattle.evaluation.specs.Arrays.{Heads, Placed};
-ghost use Rattle.lanes.specs.Levels.{Evaluated, Reduced, Settled};
+ghost use Rattle.lanes.specs.Levels.{Evaluated, Reduced, LevelClosed};
 ghost use Rattle.lanes.specs.Passes.{Covers};
 use crate::bodies::having_any;
 use crate::passes::Progress;
@@ -59,7 +59,7 @@ fn close<'a>(
 ) -> u64
     requires { ⌜ (from ≤ to) × ((to ≤ 128) × (Heads (now heads) × (length (now table) ≡ 768))) ⌝ ∗ ⌜ Covers possible (now table) ⌝ }
     ensures { λ r.
-        ⌜ Settled (now (heads .entry)) (now (positive .entry)) (now (negated .entry)) from (to - from) (now (table .entry)) (now (table .exit)) r ⌝ }
+        ⌜ LevelClosed (now (heads .entry)) (now (positive .entry)) (now (negated .entry)) from (to - from) (now (table .entry)) (now (table .exit)) r ⌝ }
 {
     reduce(table, negated, from, to);
     let mut progress = Progress { possible, added: 0 };

@@ -244,15 +244,15 @@ no-limit cost test N limit l = go (firstOf cost test N) refl
 
 module _ (cost : ℕ → ℕ) (test : ℕ → Bool) (N : ℕ) where
   module _ (n : ℕ) (f : First cost test N n) where
-    some : 0 < N
-    some = let l = f .inside in omega arith
+    inhabited : 0 < N
+    inhabited = let l = f .inside in omega arith
 
     pub at-the-limit : searched cost test N (place cost N n) ≡ found n (place cost N n)
-    at-the-limit = searched-means cost test N (place cost N n) some (found n (place cost N n)) .1 (f, refl, omega arith)
+    at-the-limit = searched-means cost test N (place cost N n) inhabited (found n (place cost N n)) .1 (f, refl, omega arith)
 
     pub below-it : (limit : ℕ) → limit < place cost N n → searched cost test N limit ≡ spent
     below-it limit l =
-        searched-means cost test N limit some spent .1 (
+        searched-means cost test N limit inhabited spent .1 (
           (λ m k i. f .first m k (places cost N m n k (f .inside) .0 (omega arith))),
           omega (arith, place-most cost N n (f .inside)),
         )

@@ -93,7 +93,7 @@ falling = (((omega arith, each), different), refl)
     each (suc zero) l = one-2
     each (suc (suc j)) l = absurd (omega arith)
 
-    different : (i j : ℕ) → i < j → j < 2 → getD (4 ∷ 2 ∷ []) i 0 ≡ getD (4 ∷ 2 ∷ []) j 0 → ⊥
+    different : (i j : ℕ) → i < j → j < 2 → _≡_ {A = ℕ} (getD (4 ∷ 2 ∷ []) i 0) (getD (4 ∷ 2 ∷ []) j 0) → ⊥
     different zero (suc zero) u v e = omega arith
     different zero zero u v e = omega arith
     different zero (suc (suc j)) u v e = omega arith

@@ -1,2 +1,3 @@
--- What the search's answer comes to.
+-- What the search's answer comes to, and what is read off its reply.
 pub mod ReplyLaws
+pub mod TheoremsProof

@@ -1,2 +1,3 @@
--- What the search replies.
+-- What the search replies, in the order of reading.
 pub mod Reply
+pub mod Theorems

@@ -25,7 +25,7 @@ use Rattle.preference.proofs.SwitchLaws as switching
 use Rattle.search.specs.Types.{resultOf}
 use Rattle.search.specs.declared.answer.Answer.{Answer}
 use Rattle.search.specs.declared.answer.Answer.the-variants.{Found, Nothing, Spent}
-use Rattle.question.specs.Types.{questionIn}
+use Rattle.question.specs.Types.{answerAsks}
 
 empty-union : (a : ℕ) → union 0 a ≡ a
 empty-union a = ext (λ k. bit-union 0 a k ∙ omega (arith, bit-empty k))
@@ -72,7 +72,7 @@ module _ (h p m s : List ℕ) (r P D : ℕ) (l : D < 2 ^ 16) (apart : disjoint P
     given = unlimited (costOf equalWeights) (λ n. test (questionAt D n)) (2 ^ size D)
 
     pub answered : (a : Answer) → resultOf a ≡ searched (costOf equalWeights) (opensAt h p m s r P members count) (2 ^ count) 65535
-        → questionIn members count a ≡ preferred keys test (candidates D)
+        → answerAsks members count a ≡ preferred keys test (candidates D)
     unfolding first
     answered a e = go a first all ∙ by-cost D l test
       where
@@ -88,7 +88,7 @@ module _ (h p m s : List ℕ) (r P D : ℕ) (l : D < 2 ^ 16) (apart : disjoint P
             ap (λ (x : ℕ). some (record { asks = x }))
             (ap (λ (x : ℕ). switched 0 members x n) is ∙ asks n ∙ ap (subsetOf D) d)
 
-        go : (a : Answer) (o : Option ℕ) → resultOf a ≡ given o → questionIn members count a ≡ questionFor D o
+        go : (a : Answer) (o : Option ℕ) → resultOf a ≡ given o → answerAsks members count a ≡ questionFor D o
         go (Found n q) (some k) f = question n k (cc)
         go (Found n q) none f = absurd (let z : _≡_ {A = ℕ} 0 1 = cc in omega arith)
         go (Nothing q) (some k) f = absurd (let z : _≡_ {A = ℕ} 0 1 = cc in omega arith)

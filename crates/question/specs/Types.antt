@@ -14,7 +14,7 @@ foundOf (Set q) = some (record { asks = q })
 foundOf Nothing = none
 
 -- the question that an answer of the search stands for: what the candidate takes
-abbrev pub questionIn : List ℕ → ℕ → Answer → Option Question
-questionIn members count (FoundAt n p) = some (record { asks = switched 0 members count n })
-questionIn members count (NoneOf t) = none
-questionIn members count Spent = none
+abbrev pub answerAsks : List ℕ → ℕ → Answer → Option Question
+answerAsks members count (FoundAt n p) = some (record { asks = switched 0 members count n })
+answerAsks members count (NoneOf t) = none
+answerAsks members count Spent = none

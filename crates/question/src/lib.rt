@@ -7,7 +7,7 @@ ghost use Rattle.evaluation.specs.Arrays.{Placed};
 ghost use Rattle.preference.specs.InArrays.{opensIn};
 ghost use Rattle.preference.specs.Preference.{preferred};
 ghost use Rattle.preference.specs.Question.{candidates, keys, noQuestion};
-ghost use Rattle.question.specs.Types.{foundOf, questionIn};
+ghost use Rattle.question.specs.Types.{foundOf, answerAsks};
 use atoms::AtomSet;
 use members::write_members;
 use search::answer::Answer;
@@ -63,7 +63,7 @@ pub fn preferred<'a>(
 // The set that a candidate takes.
 fn asked(answer: Answer, members: &[u16; 16], count: usize) -> Found
     requires { ⌜ count ≤ 16 ⌝ }
-    ensures { λ r. ⌜ foundOf r ≡ questionIn (now (members .entry)) count answer ⌝ }
+    ensures { λ r. ⌜ foundOf r ≡ answerAsks (now (members .entry)) count answer ⌝ }
 {
     match answer {
         Answer::Found { candidate, place } => Found::Set(switched(0, members, count, candidate)),

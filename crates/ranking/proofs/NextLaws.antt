@@ -8,7 +8,7 @@ use native.Mathlib.Decide.{ℕ-discrete}
 use native.Mathlib.Nat.{not-suc-le-zero}
 use native.Mathlib.Omega.{arith}
 use Rattle.ranking.specs.Keys.{never}
-use Rattle.ranking.specs.Next.{AtLeast, Least, NextKey}
+use Rattle.ranking.specs.Next.{AtLeast, Lesser, NextKey}
 
 pub next-none : (keys : List ℕ) (from : ℕ) → from ≤ never → NextKey keys 0 from never
 next-none keys from l = record {
@@ -18,7 +18,7 @@ next-none keys from l = record {
   one = λ k. absurd (omega arith);
 }
 
-pub next-more : (keys : List ℕ) (i from r x r' : ℕ) → NextKey keys i from r → AtLeast (getD keys i 0) from x → Least x r r' → NextKey keys (suc i) from r'
+pub next-more : (keys : List ℕ) (i from r x r' : ℕ) → NextKey keys i from r → AtLeast (getD keys i 0) from x → Lesser x r r' → NextKey keys (suc i) from r'
 next-more keys i from r x r' h a l = record {
   rises = rises a (l .one);
   most = omega (arith, h .most, l .second);

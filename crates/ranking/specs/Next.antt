@@ -6,7 +6,7 @@ use Prim.Native.Nat.{_<_, _≤_, ℕ}
 use lib.ListN.{getD}
 use Rattle.ranking.specs.Keys.{never}
 
-pub record Least (a b r : ℕ) : Type 0 where
+pub record Lesser (a b r : ℕ) : Type 0 where
   pub first : r ≤ a
   pub second : r ≤ b
   pub one : (r ≡ a) ⊎ (r ≡ b)

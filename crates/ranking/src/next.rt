@@ -2,11 +2,11 @@
 ghost use Prim.Native.Nat.{_≤_};
 ghost use lib.ListN.{length};
 ghost use Rattle.ranking.specs.Keys.{never};
-ghost use Rattle.ranking.specs.Next.{AtLeast, Least, NextKey};
+ghost use Rattle.ranking.specs.Next.{AtLeast, Lesser, NextKey};
 use crate::NEVER;
 
 fn lesser(a: u32, b: u32) -> u32
-    ensures { λ r. ⌜ Least a b r ⌝ }
+    ensures { λ r. ⌜ Lesser a b r ⌝ }
 {
     if a < b { a } else { b }
 }

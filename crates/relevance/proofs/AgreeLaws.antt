@@ -10,7 +10,7 @@ use Rattle.rules.specs.Stable.{Closed, Unstruck, reduct}
 use Rattle.rules.proofs.LeastLaws.{closure-closed, closure-within}
 use Rattle.rules.proofs.ListLaws.{every-imp, every-imp₂}
 use Rattle.rules.proofs.ReductLaws.{LeftRespects, Respects, reduct-every, reduct-headed}
-use Rattle.relevance.specs.Relevance.{Agree, AgreeOn, Follows, kept, keptLevels}
+use Rattle.relevance.specs.Relevance.{SameWhere, SameOn, Follows, kept, keptLevels}
 use Rattle.relevance.proofs.KeptLaws.{kept-every}
 
 -- where P holds of the head, r is left and P holds of its body
@@ -21,7 +21,7 @@ pub record Bears (P : ℕ → Type 0) (R : ℕ) (r : Rule) : Type 0 where
 
 module _ (P : ℕ → Type 0) (R : ℕ) where
   -- Y has T and is closed under the rules that count: then, as far as it counts, the closure lies within Y
-  half : (rs : List Rule) → Every (Bears P R) rs → (S T Y : ℕ) → Agree P S T → Subset T Y → Every (λ r. P (r .head) → LeftRespects T Y r) rs
+  half : (rs : List Rule) → Every (Bears P R) rs → (S T Y : ℕ) → SameWhere P S T → Subset T Y → Every (λ r. P (r .head) → LeftRespects T Y r) rs
       → (k : ℕ) → P k → Member k (closure (reduct S rs) S) → Member k Y
   half rs b S T Y a t y k p m =
       closure-within (λ k. P k → Member k Y) (reduct S rs) S (λ k i p. t k (a k p .0 i))
@@ -33,7 +33,7 @@ module _ (P : ℕ → Type 0) (R : ℕ) where
           → Unstruck S r → ((k : ℕ) → Member k (r .positive) → P k → Member k Y) → P (r .head) → Member (r .head) Y
       step r c z u f p = z p (λ k m n. u k m (a k (c .negated p k m) .1 n)) (λ k m. f k m (c .positive p k m))
 
-  pub settle-agree : (rs : List Rule) → Every Headed rs → Every (Bears P R) rs → (S T : ℕ) → Agree P S T → Agree P (settle rs S) (settle (kept R rs) T)
+  pub settle-agree : (rs : List Rule) → Every Headed rs → Every (Bears P R) rs → (S T : ℕ) → SameWhere P S T → SameWhere P (settle rs S) (settle (kept R rs) T)
   unfolding settle consequences
   settle-agree rs h b S T a k p = (half rs b S T Y a (few .holds) forth k p, half qs fewer T S X (λ k p. (a k p .1, a k p .0)) (all .holds) back k p)
     where
@@ -66,8 +66,8 @@ module _ (P : ℕ → Type 0) (R : ℕ) where
           (every-imp (LeftRespects S X) (λ r. Member (r .head) R → P (r .head) → LeftRespects S X r) (λ r z _ _. z) rs
           (reduct-every S rs (Respects X) .0 (all .respects)))
 
-  pub levels-agree : (levels : List (List Rule)) → Every (Every Headed) levels → Every (Every (Bears P R)) levels → (S T : ℕ) → Agree P S T
-      → Agree P (levelByLevel levels S) (levelByLevel (keptLevels R levels) T)
+  pub levels-agree : (levels : List (List Rule)) → Every (Every Headed) levels → Every (Every (Bears P R)) levels → (S T : ℕ) → SameWhere P S T
+      → SameWhere P (levelByLevel levels S) (levelByLevel (keptLevels R levels) T)
   unfolding levelByLevel keptLevels
   levels-agree [] h b S T a = a
   levels-agree (rs ∷ levels) h b S T a =
@@ -79,11 +79,11 @@ follows-bears : (R : ℕ) (r : Rule) → Follows R r → Bears (λ k. Member k R
 follows-bears R r f = record { left = λ i. i; positive = f .positive; negated = f .negated }
 
 pub settle-agree-on : (R : ℕ) (rs : List Rule) → Every Headed rs → Every (Follows R) rs → (S T : ℕ)
-    → AgreeOn R S T → AgreeOn R (settle rs S) (settle (kept R rs) T)
+    → SameOn R S T → SameOn R (settle rs S) (settle (kept R rs) T)
 settle-agree-on R rs h f = settle-agree (λ k. Member k R) R rs h (every-imp _ _ (follows-bears R) rs f)
 
 pub levels-agree-on : (R : ℕ) (levels : List (List Rule)) → Every (Every Headed) levels → Every (Every (Follows R)) levels → (S T : ℕ)
-    → AgreeOn R S T → AgreeOn R (levelByLevel levels S) (levelByLevel (keptLevels R levels) T)
+    → SameOn R S T → SameOn R (levelByLevel levels S) (levelByLevel (keptLevels R levels) T)
 levels-agree-on R levels h f =
     levels-agree (λ k. Member k R) R levels h
     (every-imp (Every (Follows R)) (Every (Bears (λ k. Member k R) R)) (λ rs. every-imp _ _ (follows-bears R) rs) levels f)

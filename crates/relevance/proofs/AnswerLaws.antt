@@ -15,7 +15,7 @@ use Rattle.evaluation.specs.Arrays.{Ordered, Placed, evaluated, levelsIn, ruleA
 use Rattle.evaluation.proofs.HeadLaws.{one-low}
 use Rattle.evaluation.specs.Unlocking.{grants}
 use Rattle.relevance.specs.Places.{KeptIn, SameAnswer}
-use Rattle.relevance.specs.Relevance.{Agree, AgreeOn, Follows, Relevant, keptLevels}
+use Rattle.relevance.specs.Relevance.{SameWhere, SameOn, Follows, Relevant, keptLevels}
 use Rattle.relevance.proofs.AgreeLaws.{Bears, follows-bears-low, levels-agree, levels-agree-on}
 use Rattle.relevance.proofs.StartLaws.{start-fits, start-last}
 
@@ -64,9 +64,9 @@ module _ (heads positive negated starts : List ℕ) (o : Placed heads starts) (R
   of-levels P h = at-levels heads positive negated P starts (o .ordered) h 9 0 (omega arith)
 
   pub arrays-agree : (h p n s : List ℕ) → Every (Follows R) (rulesIn heads positive negated 0 (getD starts 9 0)) → KeptIn R heads positive negated starts h p n s
-      → (C : ℕ) → AgreeOn R (evaluated heads positive negated starts C) (evaluated h p n s C)
+      → (C : ℕ) → SameOn R (evaluated heads positive negated starts C) (evaluated h p n s C)
   arrays-agree h p n s f k C =
-      subst (λ (ls : List (List Rule)). AgreeOn R (levelByLevel levels C) (levelByLevel ls C)) (sym (k .levels))
+      subst (λ (ls : List (List Rule)). SameOn R (levelByLevel levels C) (levelByLevel ls C)) (sym (k .levels))
       (levels-agree-on R levels (of-levels Headed headed) (of-levels (Follows R) (follows f)) C C (λ k _. (λ m. m, λ m. m)))
 
   -- ---- the answer
@@ -76,7 +76,7 @@ module _ (heads positive negated starts : List ℕ) (o : Placed heads starts) (R
     abbrev Counts : ℕ → Type 0
     Counts k = k ≤ violation → Member k R
 
-    agree : (C : ℕ) → Agree Counts (levelByLevel levels C) (levelByLevel (keptLevels R levels) C)
+    agree : (C : ℕ) → SameWhere Counts (levelByLevel levels C) (levelByLevel (keptLevels R levels) C)
     agree C =
         levels-agree Counts R levels (of-levels Headed headed)
         (of-levels (Bears Counts R) (λ i l. follows-bears-low R (ruleAt heads positive negated i) (headed i l) (follows (relevant .one .follows) i l)))

@@ -14,7 +14,7 @@ use Rattle.atoms.proofs.TestLaws.{eqb-true}
 use Rattle.rules.specs.Rules.{Rule}
 use Rattle.evaluation.specs.Arrays.{Heads, Ordered, Placed, atomOf, levelsIn, ruleAt, rulesIn}
 use Rattle.evaluation.proofs.HeadLaws.{heads-put}
-use Rattle.relevance.specs.Places.{KeptIn, Moved, roomBefore, room}
+use Rattle.relevance.specs.Places.{KeptIn, StartsMoved, roomBefore, room}
 use Rattle.relevance.specs.Relevance.{kept, keptLevels}
 use Rattle.relevance.proofs.PlaceLaws.{before-le, before-lt, before-most, before-next, before-step, room-in, room-out}
 use Rattle.relevance.proofs.StartLaws.{start-fits, start-last}
@@ -94,7 +94,7 @@ module _ (R : ℕ) (heads positive negated h p n : List ℕ) where
             ap₂ (λ (x y : ℕ). rulesIn h p n x (roomBefore R heads y - x)) (sym f) e ∙ ih
 
   -- each level has its rules that are left
-  levels : (starts moved : List ℕ) → Ordered starts → Moved R heads starts moved → Put R heads positive negated h p n (getD starts 9 0)
+  levels : (starts moved : List ℕ) → Ordered starts → StartsMoved R heads starts moved → Put R heads positive negated h p n (getD starts 9 0)
       → (m l : ℕ) → l + m ≤ 9 → levelsIn h p n moved l m ≡ keptLevels R (levelsIn heads positive negated starts l m)
   unfolding levelsIn keptLevels
   levels starts moved o s put zero l i = refl
@@ -113,7 +113,7 @@ module _ (R : ℕ) (heads positive negated h p n : List ℕ) where
           ap₂ (λ (x y : ℕ). rulesIn h p n x (y - x)) (s .begins l (omega arith)) (s .begins (suc l) (omega arith) ∙ ap (roomBefore R heads) (sym e))
           ∙ places (getD starts 9 0) put (to - from) from (omega (arith, start-last starts o (suc l) (omega arith)))
 
-  pub kept-in : (starts moved : List ℕ) → Placed heads starts → Moved R heads starts moved → Heads h
+  pub kept-in : (starts moved : List ℕ) → Placed heads starts → StartsMoved R heads starts moved → Heads h
       → Put R heads positive negated h p n (getD starts 9 0) → KeptIn R heads positive negated starts h p n moved
   kept-in starts moved o s singles put = record {
     placed = record { ordered = ordered; singles = singles };
@@ -136,7 +136,7 @@ pub record Compacting (R : ℕ) (heads positive negated starts h p n moved : Lis
   pub low : k ≤ getD starts 9 0
   pub goes : place ≡ roomBefore R heads k
   pub singles : Heads h
-  pub begins : Moved R heads starts moved
+  pub begins : StartsMoved R heads starts moved
   pub put : Put R heads positive negated h p n k
 
 module _ (R : ℕ) (heads positive negated starts h p n moved : List ℕ) (place k : ℕ) (o : Placed heads starts)

@@ -10,7 +10,7 @@ use Rattle.rules.specs.Rules.{Rule}
 use Rattle.rules.proofs.ListLaws.{every-imp, every-imp₂}
 use Rattle.evaluation.specs.Arrays.{ruleAt, rulesIn}
 use Rattle.evaluation.proofs.ArrayLaws.{rules-done, rules-next}
-use Rattle.relevance.specs.Relevance.{Bearing, Followed, Follows, Relevant, asked}
+use Rattle.relevance.specs.Relevance.{Bearing, Followed, Follows, Relevant, answerAtoms}
 
 -- ---- one rule
 
@@ -69,10 +69,10 @@ module _ (heads positive negated : List ℕ) (count : ℕ) where
 
 -- S is on the way to the relevant atoms
 pub record OnTheWay (rs : List Rule) (request S : ℕ) : Type 0 where
-  pub holds : Subset (asked request) S
+  pub holds : Subset (answerAtoms request) S
   pub least : (X : ℕ) → Bearing rs request X → Subset S X
 
-pub way-start : (rs : List Rule) (request S : ℕ) → S ≡ asked request → OnTheWay rs request S
+pub way-start : (rs : List Rule) (request S : ℕ) → S ≡ answerAtoms request → OnTheWay rs request S
 way-start rs request S e = subst (OnTheWay rs request) (sym e) (record { holds = λ k m. m; least = λ X b. b .holds })
 
 module _ (rs : List Rule) (request S N : ℕ) (pass : Followed rs S N) (way : OnTheWay rs request S) where

@@ -12,7 +12,7 @@ use Rattle.rules.specs.Rules.{Every, Headed, Rule, Stratified}
 use Rattle.rules.proofs.LayoutLaws.{ofLevel-every}
 use Rattle.rules.proofs.LevelByLevelLaws.{level-by-level}
 use Rattle.rules.proofs.ListLaws.{every-imp}
-use Rattle.relevance.specs.Relevance.{AgreeOn, Follows, kept, keptLevels}
+use Rattle.relevance.specs.Relevance.{SameOn, Follows, kept, keptLevels}
 use Rattle.relevance.proofs.AgreeLaws.{levels-agree-on}
 use Rattle.relevance.proofs.KeptLaws.{kept-every}
 
@@ -56,10 +56,10 @@ module _ (lev : ℕ → ℕ) where
     left : (P : Rule → Type 0) (rs : List Rule) → Every P rs → Every P (kept R rs)
     left P rs h = kept-every R rs P .1 (every-imp P (λ r. Member (r .head) R → P r) (λ r p _. p) rs h)
 
-    pub models-agree : (rs : List Rule) → Every (Stratified lev) rs → Every (Follows R) rs → (C : ℕ) → AgreeOn R (model rs C) (model (kept R rs) C)
+    pub models-agree : (rs : List Rule) → Every (Stratified lev) rs → Every (Follows R) rs → (C : ℕ) → SameOn R (model rs C) (model (kept R rs) C)
     models-agree rs s f C =
-        subst (λ (x : ℕ). AgreeOn R x (model (kept R rs) C)) (level-by-level lev rs s C n above)
-        (subst (AgreeOn R (levelByLevel (byLevel lev 0 n rs) C)) few
+        subst (λ (x : ℕ). SameOn R x (model (kept R rs) C)) (level-by-level lev rs s C n above)
+        (subst (SameOn R (levelByLevel (byLevel lev 0 n rs) C)) few
         (levels-agree-on R (byLevel lev 0 n rs)
         (every-level Headed rs (every-imp (Stratified lev) Headed (λ r h. h .headed) rs s) n 0) (every-level (Follows R) rs f n 0)
         C C (λ k _. (λ m. m, λ m. m))))

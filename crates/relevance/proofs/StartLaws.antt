@@ -8,7 +8,7 @@ use native.Mathlib.Decide.{ℕ-discrete}
 use native.Mathlib.Numerals.{add-one}
 use native.Mathlib.Omega.{arith}
 use Rattle.evaluation.specs.Arrays.{Ordered}
-use Rattle.relevance.specs.Places.{Moved, roomBefore}
+use Rattle.relevance.specs.Places.{StartsMoved, roomBefore}
 
 module _ (starts : List ℕ) (o : Ordered starts) where
   pub start-fits : (l : ℕ) → l ≤ 9 → getD starts l 0 ≤ 128
@@ -52,5 +52,5 @@ module _ (R : ℕ) (heads starts moved : List ℕ) (from place l : ℕ) (s : Mov
           ap (λ (y : ℕ). getD (set moved l x) y 0) f ∙ getD-set-same moved l x 0 (omega (arith, s .ten)) ∙ e ∙ ap (λ (y : ℕ). roomBefore R heads (getD starts y 0)) (sym f)
       go k j (no n) = let below : k < l = omega arith in getD-set-other moved l k x 0 n ∙ s .begins k below
 
-  pub moving-done : 10 ≤ l → Moved R heads starts moved
+  pub moving-done : 10 ≤ l → StartsMoved R heads starts moved
   moving-done i = record { ten = s .ten; begins = λ k j. s .begins k (omega arith) }

@@ -19,7 +19,7 @@ roomBefore R heads zero = 0
 roomBefore R heads (suc k) = roomBefore R heads k + room R (getD heads k 0)
 
 -- each level begins after the rules that are left of the levels below it
-pub record Moved (R : ℕ) (heads starts moved : List ℕ) : Type 0 where
+pub record StartsMoved (R : ℕ) (heads starts moved : List ℕ) : Type 0 where
   pub ten : length moved ≡ 10
   pub begins : (l : ℕ) → l ≤ 9 → getD moved l 0 ≡ roomBefore R heads (getD starts l 0)
 

@@ -14,12 +14,12 @@ pub record Follows (R : ℕ) (r : Rule) : Type 0 where
   pub negated : Member (r .head) R → Subset (r .negated) R
 
 -- what an answer reads: "r is in the model and 63 is not"
-abbrev pub asked : ℕ → ℕ
-asked request = union (single request) (single violation)
+abbrev pub answerAtoms : ℕ → ℕ
+answerAtoms request = union (single request) (single violation)
 
 -- R has what the answer reads, and with the head of a rule each atom "occurring in the body"
 pub record Bearing (rs : List Rule) (request R : ℕ) : Type 0 where
-  pub holds : Subset (asked request) R
+  pub holds : Subset (answerAtoms request) R
   pub follows : Every (Follows R) rs
 
 -- "The relevant subset of a policy Pol w.r.t. an atom A is the least set S such that": here the heads of those rules, with the atoms of their bodies
@@ -44,9 +44,9 @@ keptLevels R [] = []
 keptLevels R (rs ∷ levels) = kept R rs ∷ keptLevels R levels
 
 -- S and T have the same atoms of those that P holds of
-abbrev pub Agree : (ℕ → Type 0) → ℕ → ℕ → Type 0
-Agree P S T = (k : ℕ) → P k → Member k S ↔ Member k T
+abbrev pub SameWhere : (ℕ → Type 0) → ℕ → ℕ → Type 0
+SameWhere P S T = (k : ℕ) → P k → Member k S ↔ Member k T
 
 -- the same atoms of R
-abbrev pub AgreeOn : ℕ → ℕ → ℕ → Type 0
-AgreeOn R = Agree (λ k. Member k R)
+abbrev pub SameOn : ℕ → ℕ → ℕ → Type 0
+SameOn R = SameWhere (λ k. Member k R)

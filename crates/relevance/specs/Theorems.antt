@@ -7,22 +7,22 @@ use Rattle.rules.specs.Model.{model}
 use Rattle.rules.specs.Rules.{Every, Headed, Rule, Stratified}
 use Rattle.evaluation.specs.Arrays.{Placed, evaluated, rulesIn}
 use Rattle.relevance.specs.Places.{KeptIn, SameAnswer}
-use Rattle.relevance.specs.Relevance.{AgreeOn, Follows, Relevant, kept, keptLevels}
+use Rattle.relevance.specs.Relevance.{SameOn, Follows, Relevant, kept, keptLevels}
 
 pub record Theorems : Type 0 where
   -- of one level: what is the same in R before it is the same in R after it
   pub settles : (R : ℕ) (rs : List Rule) → Every Headed rs → Every (Follows R) rs → (S T : ℕ)
-      → AgreeOn R S T → AgreeOn R (settle rs S) (settle (kept R rs) T)
+      → SameOn R S T → SameOn R (settle rs S) (settle (kept R rs) T)
   -- of one level after another
   pub levels : (R : ℕ) (levels : List (List Rule)) → Every (Every Headed) levels → Every (Every (Follows R)) levels → (S T : ℕ)
-      → AgreeOn R S T → AgreeOn R (levelByLevel levels S) (levelByLevel (keptLevels R levels) T)
+      → SameOn R S T → SameOn R (levelByLevel levels S) (levelByLevel (keptLevels R levels) T)
   -- "The relevant subset of Pol w.r.t A suffices to determine which instances of A are entailed by the policy in the given state"
   pub models : (lev : ℕ → ℕ) (R : ℕ) (rs : List Rule) → Every (Stratified lev) rs → Every (Follows R) rs → (C : ℕ)
-      → AgreeOn R (model rs C) (model (kept R rs) C)
+      → SameOn R (model rs C) (model (kept R rs) C)
   -- the same of rules in arrays
   pub arrays : (heads positive negated starts : List ℕ) → Placed heads starts → (R : ℕ) (h p n s : List ℕ)
       → Every (Follows R) (rulesIn heads positive negated 0 (getD starts 9 0)) → KeptIn R heads positive negated starts h p n s
-      → (C : ℕ) → AgreeOn R (evaluated heads positive negated starts C) (evaluated h p n s C)
+      → (C : ℕ) → SameOn R (evaluated heads positive negated starts C) (evaluated h p n s C)
   -- and of the answer to a request, which need not be an atom
   pub answers : (heads positive negated starts : List ℕ) → Placed heads starts → (R request : ℕ)
       → Relevant (rulesIn heads positive negated 0 (getD starts 9 0)) request R → (h p n s : List ℕ) → KeptIn R heads positive negated starts h p n s

@@ -2,7 +2,7 @@
 ghost use mathlib.Core.Path.{_≡_};
 ghost use Prim.Native.Nat.{_+_, _<_, _≤_};
 ghost use Rattle.evaluation.specs.Arrays.{Heads, OneAtom, Placed};
-ghost use Rattle.relevance.specs.Places.{KeptIn, Moved, roomBefore, room};
+ghost use Rattle.relevance.specs.Places.{KeptIn, StartsMoved, roomBefore, room};
 use crate::LevelRules;
 use atoms::AtomSet;
 
@@ -45,7 +45,7 @@ pub(crate) fn kept_rules<'a>(
 // Where each level begins: after what is kept of the levels below it.
 fn kept_starts<'a>(heads: &'a [u64; 128], starts: &'a [usize; 10], set: AtomSet) -> [usize; 10]
     requires { ⌜ Placed (now heads) (now starts) ⌝ }
-    ensures { λ r. ⌜ Moved (set .bits) (now (heads .entry)) (now (starts .entry)) r ⌝ }
+    ensures { λ r. ⌜ StartsMoved (set .bits) (now (heads .entry)) (now (starts .entry)) r ⌝ }
 {
     let mut moved = [0usize; 10];
     let mut from: usize = 0;

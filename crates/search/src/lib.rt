@@ -62,6 +62,39 @@ pub fn first<'a>(
             limit,
         );
     }
+    many(
+        heads,
+        positive,
+        negated,
+        starts,
+        request,
+        shown,
+        members,
+        count,
+        weights,
+        limit,
+    )
+}
+
+// The same of many members: with all rules where the candidates are one block.
+fn many<'a>(
+    heads: &'a [u64; 128],
+    positive: &'a [u64; 128],
+    negated: &'a [u64; 128],
+    starts: &'a [usize; 10],
+    request: u8,
+    shown: u16,
+    members: &'a [u16; 16],
+    count: usize,
+    weights: &'a [u8; 16],
+    limit: usize,
+) -> Answer
+    requires { ⌜ Placed (now heads) (now starts) × ((request ≤ 63) × Members (now members) count) ⌝ }
+    ensures { λ r.
+        ⌜ resultOf r ≡ searched (costOf (now (weights .entry)))
+        (opensAt (now (heads .entry)) (now (positive .entry)) (now (negated .entry)) (now (starts .entry)) request shown (now (members .entry)) count)
+        (2 ^ count) limit ⌝ }
+{
     if count <= ONE_BLOCK {
         return by_blocks(
             heads,
@@ -90,7 +123,7 @@ pub fn first<'a>(
     )
 }
 
-// The same with the rules alone that bear on the request: to find them takes as long as to evaluate a block or two.
+// With the rules alone that bear on the request: to find them takes about as long as to evaluate a block.
 fn by_relevant_rules<'a>(
     heads: &'a [u64; 128],
     positive: &'a [u64; 128],

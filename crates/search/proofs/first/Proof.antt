@@ -28,29 +28,13 @@ one-by-one-requires c κs = search needs
 returns-2 : tie.Need-returns-2
 returns-2 c = search needs
 
-by-blocks-requires : tie.Need-by-blocks-requires
-by-blocks-requires c κs = search needs
+many-requires : tie.Need-many-requires
+many-requires c κs = search needs
 
 returns-3 : tie.Need-returns-3
 returns-3 c = search needs
 
-by-relevant-rules-requires : tie.Need-by-relevant-rules-requires
-by-relevant-rules-requires c κs = search needs
-
-returns-4 : tie.Need-returns-4
-returns-4 c = search needs
-
 pub first-spec : {M : Type 1} → statement M
 first-spec =
     tie.close
-    (tie.spec
-    candidates-requires
-    sub-nothing
-    nothing-requires
-    returns
-    one-by-one-requires
-    returns-2
-    by-blocks-requires
-    returns-3
-    by-relevant-rules-requires
-    returns-4)
+    (tie.spec candidates-requires sub-nothing nothing-requires returns one-by-one-requires returns-2 many-requires returns-3)
