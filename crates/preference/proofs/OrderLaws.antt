@@ -2,7 +2,6 @@
 use mathlib.Core.Path.{_∙_, _≡_, ap, ap₂, refl, subst, sym}
 use mathlib.Core.Logic.{_↔_, _⊎_, _≢_, inl, inr}
 use mathlib.Core.Bool.{Bool, cond, false, true, true≢false}
-use mathlib.Core.List.{List, [], _∷_}
 use mathlib.Core.Option.{Option, none, some}
 use Prim.Native.Nat.{_+_, _-_, _<_, _≤_, suc, zero, ℕ}
 use lib.Dec.{ltb}
@@ -10,10 +9,10 @@ use borrow.Author.Tests.{le-ltb, lt-ltb}
 use native.Mathlib.Decide.{decLt, ℕ-discrete}
 use native.Mathlib.Omega.{arith}
 use Rattle.rules.specs.Rules.{Every}
-use Rattle.preference.specs.Preference.{lexBefore, preferred}
-use Rattle.preference.specs.Order.{Before, First, Result, Searched, before, costKeys, firstOf, found, nothing, place, searched, spent, sum, trials, unlimited, upTo}
+use Rattle.preference.specs.Preference.{lexBefore}
+use Rattle.preference.specs.Order.{Before, First, Result, Searched, before, costKeys, firstOf, found, nothing, place, searched, spent, trials, unlimited, upTo}
 use Rattle.preference.proofs.PreferLaws.{decides-before, preferred-none, preferred-some}
-use Rattle.preference.proofs.SumLaws.{sum-all, sum-le, sum-lt, sum-none}
+use Rattle.preference.proofs.SumLaws.{sum-all, sum-lt, sum-none}
 
 -- ---- the order
 

@@ -3,12 +3,12 @@ use mathlib.Core.Path.{_∙_, _≡_, ap, refl, subst, sym}
 use mathlib.Core.Logic.{_⊎_, inl, inr}
 use mathlib.Core.Bool.{Bool, cond, false, true}
 use mathlib.Core.List.{List, [], _∷_}
-use Prim.Native.Nat.{_-_, _<_, max, suc, zero, ℕ}
+use Prim.Native.Nat.{_-_, _<_, suc, zero, ℕ}
 use lib.Bits.{bitXor, xor-zero-r}
 use lib.Count.{onesIn}
 use lib.ListN.{getD}
 use native.Mathlib.Omega.{arith}
-use Rattle.atoms.specs.Sets.{Member, bit, difference, disjoint, member, single, size, union}
+use Rattle.atoms.specs.Sets.{Member, bit, disjoint, member, single, size, union}
 use Rattle.atoms.proofs.SetLaws.{bit-union, disjoint-true, ext, in-or-out, member-single, none-in-empty, not-in, union-cases}
 use Rattle.evaluation.specs.Arrays.{OneAtom, atomOf}
 use Rattle.preference.specs.Candidates.{Different, Members, switched, taken}

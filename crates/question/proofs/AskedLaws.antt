@@ -3,17 +3,17 @@ use mathlib.Core.Path.{_∙_, _≡_, ap, refl, subst, sym}
 use mathlib.Core.Bool.{Bool, false, true}
 use mathlib.Core.List.{List}
 use mathlib.Core.Option.{Option, none, some}
-use Prim.Native.Nat.{_+_, _<_, _^_, _≤_, ℕ}
+use Prim.Native.Nat.{_<_, _^_, _≤_, ℕ}
 use lib.Pow.{pow-mono, pow-pos}
 use native.Mathlib.Omega.{arith}
 use Rattle.atoms.specs.Sets.{Member, disjoint, size, union}
-use Rattle.atoms.proofs.SetLaws.{bit-empty, bit-union, disjoint-true, ext, none-in-empty, true-disjoint, union-empty}
+use Rattle.atoms.proofs.SetLaws.{bit-empty, bit-union, disjoint-true, ext, none-in-empty, true-disjoint}
 use Rattle.atoms.proofs.SizeLaws.{size-credentials}
 use Rattle.evaluation.specs.Arrays.{evaluated}
 use Rattle.evaluation.specs.Unlocking.{grants}
 use Rattle.preference.specs.Candidates.{Members, switched, taken}
 use Rattle.preference.specs.InArrays.{opensAt, opensIn}
-use Rattle.preference.specs.Order.{Result, costOf, firstOf, found, nothing, searched, spent, unlimited}
+use Rattle.preference.specs.Order.{Result, costOf, firstOf, searched, unlimited}
 use Rattle.preference.specs.OrderTheorems.{equalWeights, questionAt, questionFor}
 use Rattle.preference.specs.Preference.{preferred}
 use Rattle.preference.specs.Question.{Question, candidates, keys, noQuestion}

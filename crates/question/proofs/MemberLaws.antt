@@ -1,7 +1,7 @@
 -- The members of a set, listed one after another. Assumes nothing.
 use mathlib.Core.Path.{_∙_, _≡_, ap, refl, subst, sym}
 use mathlib.Core.Logic.{_≢_}
-use mathlib.Core.Bool.{Bool, cond}
+use mathlib.Core.Bool.{cond}
 use mathlib.Core.List.{List}
 use Prim.Native.Nat.{_%_, _*_, _+_, _-_, _/_, _<_, _^_, _≤_, suc, zero, ℕ}
 use lib.Bits.{or-shifted-r}
@@ -13,7 +13,7 @@ use lib.Seq.{getD-set-other, getD-set-same}
 use native.Mathlib.Decide.{decLt}
 use native.Mathlib.Nat.{mul-one, mul-zero, one-mul, pow-suc}
 use native.Mathlib.Omega.{arith}
-use Rattle.atoms.specs.Sets.{bit, member, size, union}
+use Rattle.atoms.specs.Sets.{member, size, union}
 use Rattle.atoms.proofs.SetLaws.{bit-lt, single-is}
 use Rattle.atoms.proofs.SizeLaws.{size-credentials}
 use Rattle.evaluation.specs.Arrays.{OneAtom}

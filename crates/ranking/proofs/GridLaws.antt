@@ -1,13 +1,11 @@
 -- The grid of lanes and blocks: places counted by blocks, and the keys that the program makes. Assumes nothing.
-use mathlib.Core.Path.{_∙_, _≡_, ap, refl, subst, sym}
-use mathlib.Core.Logic.{_↔_, _⊎_, inl, inr}
+use mathlib.Core.Path.{_∙_, _≡_, ap, refl, sym}
+use mathlib.Core.Logic.{_⊎_, inl, inr}
 use mathlib.Core.List.{List}
-use Prim.Native.Nat.{_%_, _*_, _+_, _-_, _/_, _<_, _^_, _≤_, min, ℕ}
-use lib.ListN.{drop, getD}
-use native.Mathlib.Decide.{decLt, ℕ-discrete}
+use Prim.Native.Nat.{_%_, _*_, _+_, _-_, _/_, _<_, _≤_, ℕ}
+use lib.ListN.{getD}
 use native.Mathlib.Omega.{arith}
-use Rattle.preference.specs.Order.{Before, costOf, sum}
-use Rattle.preference.proofs.CostLaws.{cost-empty, cost-split}
+use Rattle.preference.specs.Order.{sum}
 use Rattle.preference.proofs.SumLaws.{sum-blocks, sum-next, sum-same, sum-start}
 use Rattle.ranking.specs.Grid.{Grid, keyAt}
 use Rattle.ranking.specs.Keys.{widened}

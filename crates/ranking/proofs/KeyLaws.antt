@@ -12,7 +12,7 @@ use Rattle.atoms.specs.Sets.{size}
 use Rattle.atoms.proofs.SizeLaws.{size-credentials}
 use Rattle.preference.specs.Order.{costOf, weightOf}
 use Rattle.preference.proofs.CostLaws.{weight-add, weight-empty}
-use Rattle.ranking.specs.Keys.{Extended, Keys, KeysWritten, TotalsWritten}
+use Rattle.ranking.specs.Keys.{Extended, KeysWritten, TotalsWritten}
 
 -- ---- one member more, for the first i candidates
 

@@ -1,14 +1,13 @@
 -- The loops that find the cheapest lane. Assumes nothing.
 use mathlib.Core.Path.{_∙_, _≡_, ap, refl, subst, sym}
 use mathlib.Core.Logic.{_⊎_, inl, inr}
-use mathlib.Core.Bool.{true}
 use mathlib.Core.List.{List}
 use Prim.Native.Nat.{_%_, _*_, _+_, _/_, _<_, _≤_, suc, ℕ}
 use lib.ListN.{getD}
 use native.Mathlib.Decide.{decLt, ℕ-discrete}
 use native.Mathlib.Nat.{not-suc-le-zero}
 use native.Mathlib.Omega.{arith}
-use Rattle.atoms.specs.Sets.{Member, bit, member}
+use Rattle.atoms.specs.Sets.{bit}
 use Rattle.atoms.proofs.SetLaws.{bit-empty}
 use Rattle.atoms.proofs.TestLaws.{eqb-true, true-eqb}
 use Rattle.ranking.specs.Keys.{never}

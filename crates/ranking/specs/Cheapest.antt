@@ -1,11 +1,11 @@
 -- Of the lanes that pass, the one of the least key. Assumes nothing.
 use mathlib.Core.Path.{_≡_}
-use mathlib.Core.Logic.{_⊎_, _≢_}
+use mathlib.Core.Logic.{_⊎_}
 use mathlib.Core.Bool.{true}
 use mathlib.Core.List.{List}
 use Prim.Native.Nat.{_%_, _/_, _<_, _≤_, ℕ}
 use lib.ListN.{getD}
-use Rattle.atoms.specs.Sets.{bit, member}
+use Rattle.atoms.specs.Sets.{member}
 use Rattle.ranking.specs.Keys.{never}
 
 -- lane i passes: bit i % 64 of word i / 64 is set

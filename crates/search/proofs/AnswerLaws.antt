@@ -1,9 +1,9 @@
 -- What is settled is the answer. Assumes nothing.
 use mathlib.Core.Path.{_∙_, _≡_, ap, ap₂, refl, subst, sym}
 use mathlib.Core.Logic.{_⊎_, inl, inr}
-use mathlib.Core.Bool.{Bool, cond, false, true, true≢false}
+use mathlib.Core.Bool.{Bool, cond, false, true}
 use mathlib.Core.List.{List}
-use Prim.Native.Nat.{_%_, _*_, _+_, _-_, _<_, _^_, _≤_, min, ℕ}
+use Prim.Native.Nat.{_%_, _-_, _<_, _^_, _≤_, min, ℕ}
 use borrow.Author.Tests.{le-ltb, lt-ltb}
 use lib.Dec.{ltb}
 use lib.ListN.{getD}
@@ -12,7 +12,7 @@ use native.Mathlib.Decide.{decLt, ℕ-discrete}
 use native.Mathlib.Omega.{arith}
 use Rattle.preference.specs.Candidates.{switched}
 use Rattle.preference.specs.InArrays.{opensAt}
-use Rattle.preference.specs.Order.{Result, costOf, found, nothing, place, searched, spent, sum}
+use Rattle.preference.specs.Order.{costOf, found, nothing, place, searched, spent, sum}
 use Rattle.preference.proofs.OrderLaws.{searched-means, searched-same}
 use Rattle.preference.proofs.OrderTheoremsProof.{other-places}
 use Rattle.relevance.specs.Places.{SameAnswer}

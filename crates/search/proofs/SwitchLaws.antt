@@ -1,6 +1,6 @@
 -- The loop that switches members. Assumes nothing.
 use mathlib.Core.Path.{_∙_, _≡_, ap, refl}
-use mathlib.Core.Bool.{Bool, cond}
+use mathlib.Core.Bool.{cond}
 use mathlib.Core.List.{List}
 use Prim.Native.Nat.{_%_, _+_, _/_, _^_, ℕ}
 use native.Mathlib.Numerals.{add-one}

@@ -2,7 +2,6 @@
 use mathlib.Core.Path.{_∙_, _≡_, ap, refl, subst, sym}
 use Prim.Native.Nat.{_*_, _+_, _-_, _≤_, ℕ}
 use lib.ListN.{getD}
-use native.Mathlib.Numerals.{add-one}
 use Rattle.atoms.specs.Sets.{bit}
 use Rattle.ranking.specs.Cheapest.{Cheapest}
 use Rattle.ranking.proofs.LaneLaws.{bit-at, cheapest-empty, cheapest-more}

@@ -1,5 +1,5 @@
 -- `ranking::place::bar` meets its contract. Assumes nothing.
-use mathlib.Core.Path.{_≡_, refl}
+use mathlib.Core.Path.{refl}
 use Prim.Native.Nat.{_*_, _-_, _<_, _≤_}
 use Rattle.ranking.specs.Keys.{never}
 use Rattle.ranking.specs.Place.{keysIn}

@@ -1,5 +1,5 @@
 -- `search::blocks::by_blocks` meets its contract. Assumes nothing.
-use mathlib.Core.Path.{_∙_, _≡_}
+use mathlib.Core.Path.{_∙_}
 use Prim.Native.Nat.{_-_}
 use native.Mathlib.Omega.{arith}
 use Rattle.search.proofs.AnswerLaws.{block-found, block-nothing, tables-of}

@@ -1,5 +1,4 @@
 -- `search::blocks::is_last` meets its contract. Assumes nothing.
-use mathlib.Core.Path.{sym}
 use mathlib.Core.Bool.{true≢false}
 use mathlib.Core.Logic.{inl, inr}
 use borrow.Author.Tests.{ltb-true}

@@ -1,5 +1,4 @@
 -- `search::candidate::flip` meets its contract. Assumes nothing.
-use mathlib.Core.Path.{sym}
 use borrow.Author.Tests.{eq-eqb, ne-eqb}
 use Rattle.search.proofs.candidate.flip.Statement.{statement}
 use Rattle.search.proofs.candidate.flip.Tie as tie

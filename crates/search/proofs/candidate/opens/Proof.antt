@@ -1,5 +1,5 @@
 -- `search::candidate::opens` meets its contract. Assumes nothing.
-use mathlib.Core.Path.{_∙_, _≡_, ap}
+use mathlib.Core.Path.{_∙_, ap}
 use Prim.Native.Nat.{ℕ}
 use Rattle.evaluation.specs.Arrays.{evaluated}
 use Rattle.evaluation.specs.Unlocking.{grants}

@@ -1,5 +1,5 @@
 -- `search::singles::one_by_one` meets its contract. Assumes nothing.
-use mathlib.Core.Path.{_∙_, _≡_, refl}
+use mathlib.Core.Path.{_∙_, refl}
 use lib.ListN.{replicate}
 use lib.Pow.{pow-mono}
 use Rattle.ranking.specs.Keys.{never}
