@@ -5,7 +5,8 @@
  * contracts in src/lib.rt, theorems in specs/Theorems.antt): it returns, never traps, and reads and writes nothing else.
  * A policy is never written. No function allocates, keeps a pointer or has a state of its own.
  *
- * For a watchdog: a round tries at most 65,535 sets of credentials, and no other function tries any. STACKLINE
+ * For a watchdog: a round tries at most 65,535 sets of credentials, and no other function tries any. The deepest stack
+ * below the caller was measured as 16,128 bytes in a round, 6,688 for the model and less for the others (docs/PERFORMANCE.md).
  *
  * The caller owes what C cannot show: pointers that are not null (also where a length is 0), aligned for their type, to
  * memory that is there and has been written before; no overlap of what one call writes with anything else that it is
