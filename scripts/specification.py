@@ -3,13 +3,15 @@
 
     scripts/specification.py                 every file and name in backticks is there
     scripts/specification.py --paper PATH    and the page has document 01 (its file 01-scope.md), whole and in order
+    scripts/specification.py --letter PATH   and the customer's three demands (in 00-customers-letter.md)
 
 What stands in backticks is a file if it has a slash, and else a name, which has to be in the file before it, in the same cell of a
 table or the same line of text. Comments do not count. Files are in crates, or else in the repository's root. What is wrong is
 printed, and the exit status is then 1. Headings and first columns from document 01's title on have to be its text and nothing
-more; white space and marks of layout are not compared.
+more, and first columns before it the demands; white space and marks of layout are not compared.
 """
 import argparse
+import pathlib
 import re
 import sys
 
@@ -50,12 +52,16 @@ def plain(text):
     return " ".join(re.sub(r"<br>|[\\*`]|^ *(#+|-) ", " ", text, flags=re.M).split())
 
 
-def quoted(page):
-    """The headings and first columns from document 01's title on."""
-    lines = "".join(page.partition(f"## {TITLE}\n")[1:]).split("\n")
+def first_columns(part, headings):
+    """The first columns of a part of the page, and its headings where they are asked for."""
+    lines = part.split("\n")
     for line, below in zip(lines, lines[1:]):
-        if line.startswith("#") or (line.startswith("| ") and below != "|---|---|---|"):
+        if (headings and line.startswith("#")) or (line.startswith("| ") and below != "|---|---|---|"):
             yield line.split(" | ")[0].lstrip("| ")
+
+
+def demands(letter):
+    return "\n".join(re.findall(r"^[123]\. (.*)$", letter, re.M))
 
 
 def sentences(paper):
@@ -64,8 +70,8 @@ def sentences(paper):
         yield from re.split(r"(?<=[.:;]) (?=[A-Z\"(])", line)
 
 
-def paper_differs(page, paper):
-    text, at = plain("\n".join(quoted(page))), 0
+def paper_differs(quoted, paper):
+    text, at = plain("\n".join(quoted)), 0
     for sentence in sentences(paper):
         found = text.find(sentence, at)
         if found < 0:
@@ -80,12 +86,15 @@ def paper_differs(page, paper):
 
 def main():
     arguments = argparse.ArgumentParser(description="Checks docs/SPECIFICATION.md.")
-    arguments.add_argument("--paper", metavar="PATH", help="document 01, 01-scope.md")
-    page, path = (ROOT / PAGE).read_text(), arguments.parse_args().paper
+    arguments.add_argument("--paper", metavar="PATH", type=pathlib.Path, help="document 01, 01-scope.md")
+    arguments.add_argument("--letter", metavar="PATH", type=pathlib.Path, help="the customer's letter, 00-customers-letter.md")
+    page, given = (ROOT / PAGE).read_text(), arguments.parse_args()
+    before, title, after = page.partition(f"## {TITLE}\n")
     wrong = list(names_missing(page))
-    if path:
-        with open(path, encoding="utf-8") as file:
-            wrong += paper_differs(page, file.read())
+    if given.letter:
+        wrong += paper_differs(first_columns(before, False), demands(given.letter.read_text(encoding="utf-8")))
+    if given.paper:
+        wrong += paper_differs(first_columns(title + after, True), given.paper.read_text(encoding="utf-8"))
     print("\n".join(wrong) or f"{PAGE} is right")
     return 1 if wrong else 0
 

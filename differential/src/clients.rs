@@ -19,7 +19,7 @@ pub enum Manner {
     Everything,
     /// Shows again what it has shown, and a part of what is asked.
     Again,
-    /// "shows in round 1 a part I of what it holds and answers each question with exactly the asked ones it holds"
+    /// "shows in round 1 a part I of what it holds, and answers each question with exactly the asked ones it holds"
     Cooperative { holding: u16, first: u16 },
 }
 

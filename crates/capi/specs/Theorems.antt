@@ -91,7 +91,7 @@ pub record Theorems : Type 0 where
   -- of the session that the bytes stand for
   pub plays : (policy before : List ℕ) → Bytes before → length before ≡ 10 → (s : Session) (m : Move) → unpacked before ≡ some s
       → roundCall policy before (m .shows) ≡ callOf (record { takes = m; gives = round policy s m })
-  -- "what is no session is refused 8 and left as it was", after the policy's test
+  -- ten bytes that are no session are refused 8 and left as they were, after the policy's test
   pub no-session : (policy : List ℕ) → Bytes policy → W.WellFormed policy → (before : List ℕ) (p : ℕ) → unpacked before ≡ none
       → roundCall policy before p ≡ record { reply = 8; leaves = before }
   pub untested : (policy : List ℕ) → Bytes policy → (f : W.Refusal) → W.PolicyRefused policy f → (before : List ℕ) (p : ℕ) → unpacked before ≡ none

@@ -47,11 +47,11 @@ NothingTwice rounds = Each (λ past t. (k : ℕ) → SomeRound (λ u. Asks (u .e
 abbrev pub DeniesExactly : Policy → ℕ → List Round → Type 0
 DeniesExactly pol r rounds = Each (λ past t. DeniedWhen pol r (shownBy (t ∷ past)) (declinedBy (t ∷ past)) (t .ended)) [] rounds
 
--- "d counts all askable credentials"
+-- "d counting all credentials that the disclosure rules can ask for"
 abbrev pub askableCount : Policy → ℕ
 askableCount pol = size (askable (pol .disclosure))
 
--- "u counts the askable ones it lacks": those outside H
+-- "u counting the credentials that the disclosure rules can ask for and it lacks": those outside H
 abbrev pub lackedCount : Policy → ℕ → ℕ
 lackedCount pol H = size (difference (askable (pol .disclosure)) H)
 
@@ -66,14 +66,14 @@ pub record Licensed (pol : Policy) (r H I S : ℕ) : Type 0 where
   pub disclosed : (k : ℕ) → Member k S → Disclosable (pol .disclosure) I k
   pub opens : (T : ℕ) → Subset T H → Unlocks (pol .access) r (union S T)
 
--- "A client that shows in round 1 a part I of what it holds and answers each question with exactly the asked ones it holds"
+-- "A client that shows in round 1 a part I of what it holds, and answers each question with exactly the asked ones it holds"
 abbrev pub Client : ℕ → ℕ → List Round → Type 0
 Client H I rounds = Each (λ past t. t .takes .shows ≡ reply H I past) [] rounds
 
 pub record Admitted (pol : Policy) (H : ℕ) (ts : List Turn) : Type 0 where
   -- "is never denied"
   pub never-denied : Each (λ past t. t .ended ≢ deny) [] (acceptedOf ts)
-  -- "and has grant by round 2 + u"
+  -- "and has grant by round 2 + u at the latest"
   pub granted-by : ByRound (2 + lackedCount pol H) (λ e. e ≡ grant) (acceptedOf ts)
   -- "a list with k or more rounds, refused ones counted, thus has one that ends" so
   pub granted : 2 + lackedCount pol H ≤ length ts → SomeRound (λ t. t .ended ≡ grant) (acceptedOf ts)
@@ -81,7 +81,7 @@ pub record Admitted (pol : Policy) (H : ℕ) (ts : List Turn) : Type 0 where
 -- ---- demand 3, of the rounds ts that answered the list ms, beginning with the session s
 
 pub record Demand3 (bytes : List ℕ) (r : ℕ) (s : Session) (ms : List Move) (ts : List Turn) : Type 0 where
-  -- "each answer is the one document 01 defines for that list": as the definitions run, and as the list says
+  -- "each answer is the one that document 01 defines for that list": as the definitions run, and as the list says
   pub defined : ts ≡ run (round bytes) s ms
   pub responds : AllRespond (policyOf bytes) r ts
   pub answered : MeetsDemand2 (policyOf bytes) r (acceptedOf ts)
@@ -89,17 +89,17 @@ pub record Demand3 (bytes : List ℕ) (r : ℕ) (s : Session) (ms : List Move) (
   pub sessions : SessionsSay r ts
   -- "nothing is asked twice"
   pub once : NothingTwice (acceptedOf ts)
-  -- "the count is the number of rounds accepted"
+  -- "the count after it is the number of rounds accepted"
   pub counted : CountsRounds ts
-  -- "grant or deny comes by round d + 1"
+  -- "the client has grant or deny by round d + 1"
   pub bounded : ByRound (suc (askableCount (policyOf bytes))) Final (acceptedOf ts)
   -- "a list with k or more rounds, refused ones counted, thus has one that ends in grant or deny"
   pub ended : suc (askableCount (policyOf bytes)) ≤ length ts → Over (acceptedOf ts)
   -- "An accepted round ends in deny exactly when no set of disclosable credentials, neither shown nor declined by that round, unlocks the service
   -- beside those shown by then."
   pub denies : DeniesExactly (policyOf bytes) r (acceptedOf ts)
-  -- "A client that shows in round 1 a part I of what it holds and answers each question with exactly the asked ones it holds is never denied and has
-  -- grant by round 2 + u", "if some held set S, all disclosable from I, unlocks the service together with every part of its holding"
+  -- "A client that shows in round 1 a part I of what it holds, and answers each question with exactly the asked ones it holds, is never denied and
+  -- has grant by round 2 + u at the latest", "if some held set S, all disclosable from I, unlocks the service together with every part of its holding"
   pub admits : (H I S : ℕ) → Licensed (policyOf bytes) r H I S → Client H I (acceptedOf ts) → Admitted (policyOf bytes) H ts
 
 -- "Demand 3 is a single claim about a policy, a request and a whole list of rounds": opening has given s for the request r, each p of the list is a

@@ -85,7 +85,7 @@ declinedBy (t ∷ past) = union (declinedBy past) (difference (lastQuestion past
 abbrev pub declinedNext : List Round → Move → ℕ
 declinedNext past m = union (declinedBy past) (difference (lastQuestion past .asks) (m .shows))
 
--- demand 3: what a client that holds H shows next, if it "shows in round 1 a part I of what it holds and answers each question with exactly the asked
+-- demand 3: what a client that holds H shows next, if it "shows in round 1 a part I of what it holds, and answers each question with exactly the asked
 -- ones it holds"
 unfoldable pub reply : ℕ → ℕ → List Round → ℕ
 reply H I [] = I

@@ -110,7 +110,7 @@ pub record Marked : Type 0 where
   pub j-disclosed : disclosableAnswer policyB empty ≡ given (setOf (0 ∷ 1 ∷ 2 ∷ 3 ∷ []))
   pub j-alone : unlocksBy policyB 16 (setOf (2 ∷ 3 ∷ [])) ≡ true
   pub j-beside : unlocksBy policyB 16 (union (setOf (2 ∷ 3 ∷ [])) (setOf (0 ∷ []))) ≡ false
-  -- "grant or deny comes by round d + 1", and not sooner: two askable credentials, and three rounds
+  -- "the client has grant or deny by round d + 1", and not sooner: two askable credentials, and three rounds
   pub d-reached : answers ((16 if 0 ∷ [] not []) ++ (16 if 1 ∷ [] not []) ++ (disclose 0 if []) ++ (disclose 1 if [])) (empty ∷ empty ∷ empty ∷ [])
       ≡ asking 0x0001 ∷ asking 0x0002 ∷ ends deny ∷ []
   -- demand 3's last sentence is not empty

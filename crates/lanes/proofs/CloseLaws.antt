@@ -10,7 +10,7 @@ use Rattle.rules.specs.Rules.{Rule}
 use Rattle.rules.proofs.LoopLaws.{pass-again, pass-idle, reached}
 use Rattle.evaluation.specs.Arrays.{rulesIn}
 use Rattle.lanes.specs.LaneSets.{EachLane}
-use Rattle.lanes.specs.Levels.{Reduced, LevelClosed}
+use Rattle.lanes.specs.Levels.{LevelClosed, Reduced}
 use Rattle.lanes.specs.Passes.{Covers, Passed, Says, Stale}
 use Rattle.lanes.specs.Tables.{lane}
 use Rattle.lanes.specs.declared.passes.Progress.{Progress}

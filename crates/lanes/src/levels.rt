@@ -3,7 +3,7 @@ ghost use mathlib.Core.Path.{_≡_};
 ghost use Prim.Native.Nat.{_-_, _≤_};
 ghost use lib.ListN.{length};
 ghost use Rattle.evaluation.specs.Arrays.{Heads, Placed};
-ghost use Rattle.lanes.specs.Levels.{Evaluated, Reduced, LevelClosed};
+ghost use Rattle.lanes.specs.Levels.{Evaluated, LevelClosed, Reduced};
 ghost use Rattle.lanes.specs.Passes.{Covers};
 use crate::bodies::having_any;
 use crate::passes::Progress;

@@ -7,7 +7,7 @@ ghost use Rattle.evaluation.specs.Arrays.{Placed};
 ghost use Rattle.preference.specs.InArrays.{opensIn};
 ghost use Rattle.preference.specs.Preference.{preferred};
 ghost use Rattle.preference.specs.Question.{candidates, keys, noQuestion};
-ghost use Rattle.question.specs.Types.{foundOf, answerAsks};
+ghost use Rattle.question.specs.Types.{answerAsks, foundOf};
 use atoms::AtomSet;
 use members::write_members;
 use search::answer::Answer;

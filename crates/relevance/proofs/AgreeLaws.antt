@@ -10,7 +10,7 @@ use Rattle.rules.specs.Stable.{Closed, Unstruck, reduct}
 use Rattle.rules.proofs.LeastLaws.{closure-closed, closure-within}
 use Rattle.rules.proofs.ListLaws.{every-imp, every-imp₂}
 use Rattle.rules.proofs.ReductLaws.{LeftRespects, Respects, reduct-every, reduct-headed}
-use Rattle.relevance.specs.Relevance.{SameWhere, SameOn, Follows, kept, keptLevels}
+use Rattle.relevance.specs.Relevance.{Follows, SameOn, SameWhere, kept, keptLevels}
 use Rattle.relevance.proofs.KeptLaws.{kept-every}
 
 -- where P holds of the head, r is left and P holds of its body

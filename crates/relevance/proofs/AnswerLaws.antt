@@ -15,7 +15,7 @@ use Rattle.evaluation.specs.Arrays.{Ordered, Placed, evaluated, levelsIn, ruleA
 use Rattle.evaluation.proofs.HeadLaws.{one-low}
 use Rattle.evaluation.specs.Unlocking.{grants}
 use Rattle.relevance.specs.Places.{KeptIn, SameAnswer}
-use Rattle.relevance.specs.Relevance.{SameWhere, SameOn, Follows, Relevant, keptLevels}
+use Rattle.relevance.specs.Relevance.{Follows, Relevant, SameOn, SameWhere, keptLevels}
 use Rattle.relevance.proofs.AgreeLaws.{Bears, follows-bears-low, levels-agree, levels-agree-on}
 use Rattle.relevance.proofs.StartLaws.{start-fits, start-last}
 

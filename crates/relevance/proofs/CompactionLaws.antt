@@ -14,7 +14,7 @@ use Rattle.atoms.proofs.TestLaws.{eqb-true}
 use Rattle.rules.specs.Rules.{Rule}
 use Rattle.evaluation.specs.Arrays.{Heads, Ordered, Placed, atomOf, levelsIn, ruleAt, rulesIn}
 use Rattle.evaluation.proofs.HeadLaws.{heads-put}
-use Rattle.relevance.specs.Places.{KeptIn, StartsMoved, roomBefore, room}
+use Rattle.relevance.specs.Places.{KeptIn, StartsMoved, room, roomBefore}
 use Rattle.relevance.specs.Relevance.{kept, keptLevels}
 use Rattle.relevance.proofs.PlaceLaws.{before-le, before-lt, before-most, before-next, before-step, room-in, room-out}
 use Rattle.relevance.proofs.StartLaws.{start-fits, start-last}

@@ -12,7 +12,7 @@ use Rattle.rules.specs.Rules.{Every, Headed, Rule, Stratified}
 use Rattle.rules.proofs.LayoutLaws.{ofLevel-every}
 use Rattle.rules.proofs.LevelByLevelLaws.{level-by-level}
 use Rattle.rules.proofs.ListLaws.{every-imp}
-use Rattle.relevance.specs.Relevance.{SameOn, Follows, kept, keptLevels}
+use Rattle.relevance.specs.Relevance.{Follows, SameOn, kept, keptLevels}
 use Rattle.relevance.proofs.AgreeLaws.{levels-agree-on}
 use Rattle.relevance.proofs.KeptLaws.{kept-every}
 

@@ -11,7 +11,7 @@ use Rattle.atoms.specs.Sets.{Member, member}
 use Rattle.atoms.proofs.SetLaws.{not-in}
 use Rattle.atoms.proofs.TestLaws.{true-eqb}
 use Rattle.evaluation.specs.Arrays.{atomOf}
-use Rattle.relevance.specs.Places.{roomBefore, room}
+use Rattle.relevance.specs.Places.{room, roomBefore}
 
 module _ (R : ℕ) where
   room-test : (s : ℕ) (b : Bool) → member (atomOf s) R ≡ b → room R s ≡ cond b 1 0

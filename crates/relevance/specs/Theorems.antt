@@ -7,7 +7,7 @@ use Rattle.rules.specs.Model.{model}
 use Rattle.rules.specs.Rules.{Every, Headed, Rule, Stratified}
 use Rattle.evaluation.specs.Arrays.{Placed, evaluated, rulesIn}
 use Rattle.relevance.specs.Places.{KeptIn, SameAnswer}
-use Rattle.relevance.specs.Relevance.{SameOn, Follows, Relevant, kept, keptLevels}
+use Rattle.relevance.specs.Relevance.{Follows, Relevant, SameOn, kept, keptLevels}
 
 pub record Theorems : Type 0 where
   -- of one level: what is the same in R before it is the same in R after it
