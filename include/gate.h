@@ -1,9 +1,9 @@
 /* The station gate for C. Link target/staticlib/libcapi.a, which `rt staticlib capi` makes for x86-64; beside it a program
  * needs only memcpy and memset.
  *
- * Each function's reply, and what it leaves in the memory that it is lent, is proved for every input (crates/capi,
- * contracts in src/lib.rt, theorems in specs/Theorems.antt): it returns, never traps, and reads and writes nothing else.
- * A policy is never written. No function allocates, keeps a pointer or has a state of its own.
+ * Each function's reply, and what it leaves in the memory that it is lent, is proved for every input (contracts in
+ * crates/capi/src/lib.rt, theorems in crates/packing/specs/Theorems.antt): it returns, never traps, and reads and writes
+ * nothing else. A policy is never written. No function allocates, keeps a pointer or has a state of its own.
  *
  * For a watchdog: a round tries at most 65,535 sets of credentials, and no other function tries any. The deepest stack
  * below the caller was measured as 16,128 bytes in a round, 6,688 for the model and less for the others (docs/PERFORMANCE.md).
@@ -29,22 +29,35 @@ extern "C" {
  *   2, 3   shown set                      7      phase: 0 fresh, 1 waiting, 2 closed with grant, 3 closed with deny
  *   4, 5   declined set                   8, 9   the set asked for where the phase is 1, else 0
  *
- * Numbers of two bytes have the lower byte first. Any ten bytes at all may be handed in. They may be stored, copied and
- * compared: a session has just one record. */
+ * Numbers of two bytes have the lower byte first. Any ten bytes at all may be handed in, at any address. They may be
+ * stored, copied and compared: a session has just one record. */
 typedef struct {
     uint8_t bytes[10];
 } gate_session;
+
+static inline uint16_t gate_two_bytes(const uint8_t *at) {
+    return (uint16_t)(at[0] | at[1] << 8);
+}
+
+/* What stands in a session, of a pointer to it, which is evaluated once. */
+#define GATE_REQUEST(session) gate_two_bytes((session)->bytes)
+#define GATE_SHOWN(session) gate_two_bytes((session)->bytes + 2)
+#define GATE_DECLINED(session) gate_two_bytes((session)->bytes + 4)
+#define GATE_COUNT(session) ((session)->bytes[6])
+#define GATE_PHASE(session) ((session)->bytes[7])
+#define GATE_ASKED(session) gate_two_bytes((session)->bytes + 8)
+
+enum { GATE_FRESH = 0, GATE_WAITING = 1, GATE_GRANTED = 2, GATE_DENIED = 3 };
 
 /* A reply is a number. Bytes that are not named here are 0.
  *
  *   0                   nothing is refused, and there is no more to say; never of a round
  *   byte 0 is not 0     refused with that number, 1 to 9; with 1 to 6 byte 1 is the number of the policy's record
- *   byte 0 is 0         a round, not refused: byte 1 is 1 for grant, 2 for deny, 3 for a question, and then bytes 2 and 3
- *                       are the set asked for */
+ *   byte 0 is 0         a round, not refused: byte 1 is 1 for grant, 2 for deny, 3 for a question; the set asked for is
+ *                       GATE_ASKED of the session that the round leaves */
 #define GATE_REFUSAL(reply) ((uint32_t)(reply) & 0xff)
 #define GATE_RECORD(reply) ((uint32_t)(reply) >> 8 & 0xff) /* of a refusal, 1 to 6 */
 #define GATE_ENDING(reply) ((uint32_t)(reply) >> 8 & 0xff) /* of a round that is not refused */
-#define GATE_ASKED(reply) ((uint32_t)(reply) >> 16)        /* where the ending is GATE_ASK */
 
 enum { GATE_GRANT = 1, GATE_DENY = 2, GATE_ASK = 3 };
 

@@ -8,7 +8,7 @@ The lines are document 01's own; the script stops unless its definitions in roun
 """
 import sys
 
-from rounds import EMPTY, POLICY_A, Session, accepted_round, credentials, number
+from rounds import EMPTY, POLICY_A, Session, accepted_round, credentials, encoded
 from stored import stored
 
 INPUT = bytes.fromhex("10 00 00 00 00 00 03 00")
@@ -17,11 +17,6 @@ round 1 got 0000 ask 0004
 round 2 got 0000 ask 0003
 round 3 got 0003 grant
 """
-
-
-def encoded(kind, head, positive, negated):
-    """A record's 18 bytes."""
-    return bytes([kind, head]) + b"".join(number(side).to_bytes(8, "little") for side in (positive, negated))
 
 
 def lines():

@@ -1,18 +1,107 @@
 #!/usr/bin/env python3
-"""The expected output of the program `cases`, from document 01 and not from our code.
+"""The cases of the program `cases` and the answers to them, from document 01 and not from our code.
 
-    scripts/expected_cases.py            write crates/cases/stdout
-    scripts/expected_cases.py --check    say whether that file is what the script makes
+    scripts/expected_cases.py            write crates/cases/stdin and crates/cases/stdout
+    scripts/expected_cases.py --check    say whether these two files are what the script makes
 
-Only the inputs, the table of one-record policies, are read from crates/cases/src/singles.rt. Rounds are worked out by rounds.py.
+Rounds are worked out by rounds.py.
+
+stdin, for each case, with numbers of two bytes, little-endian:
+    what is asked: 1 the policy's test, 2 an opening, 3 a round, 4 an opening and a list of rounds
+    how long the start of the line is, and how long the start and the policy are together
+    the start of the line: the name of the case, a colon and a blank
+    the policy
+    of an opening: the request
+    of a round: request, shown, declined, count, phase (0 fresh, 1 waiting, 2 granted, 3 denied) and question of the session, and
+        what is shown in the round
+    of a list: the request, how many rounds there are, four at most, and four numbers, what is shown in each round
+stdout: the line of each case, with the answer.
 """
+import collections
 import re
+import struct
 import sys
 
-from rounds import POLICY_A, Session, accepted_round, credentials, is_service, number, refusal
-from stored import ROOT, stored
+from rounds import POLICY_A, Session, accepted_round, credentials, encoded, is_service, number, refusal
+from stored import stored
 
+Case = collections.namedtuple("Case", "asked name policy session shown said")
+# The first so many bytes of these records.
+Policy = collections.namedtuple("Policy", "length records")
+TEST, OPENING, ROUND, LIST = range(1, 5)
+MOST_ROUNDS = 4
+PHASES = "fresh", "waiting", "closed granted", "closed denied"
 ALWAYS_16 = (1, 16, set(), set())
+# Each line that begins with "kind" is a policy of one record.
+ONE_RECORD = """
+"3: kind neither 1 nor 2."
+kind 0 head 16
+kind 1 head 17
+kind 2 head 0
+kind 3 head 16
+kind 255 head 16
+"An access head is 16 to 63."
+kind 1 head 15
+kind 1 head 16
+kind 1 head 63
+kind 1 head 64
+kind 1 head 255
+"A disclosure head is 0 to 15"
+kind 2 head 15
+kind 2 head 16
+kind 2 head 63
+kind 2 head 64
+kind 2 head 255
+"Atom 63 stands in no body."
+kind 1 head 63 if 62
+kind 1 head 63 if 63
+kind 1 head 63 not 62
+kind 1 head 63 not 63
+kind 1 head 24 if 3 not 3
+"its body has only credentials, none negated"
+kind 2 head 0 if 15
+kind 2 head 0 if 16
+kind 2 head 0 if 63
+kind 2 head 0 not 0
+kind 2 head 0 not 63
+kind 2 head 0 if 0
+"no positive atom's level is above the head's"
+kind 1 head 16 if 15
+kind 1 head 16 if 23
+kind 1 head 16 if 24
+kind 1 head 31 if 32
+kind 1 head 32 if 31
+kind 1 head 47 if 48
+"every negated atom's level is smaller than the head's"
+kind 1 head 16 not 15
+kind 1 head 16 not 16
+kind 1 head 17 not 24
+kind 1 head 24 not 23
+kind 1 head 24 not 24
+kind 1 head 24 if 24 not 24
+"The level of atoms 0 to 62 is the number divided by 8, rounded down"
+kind 1 head 31 not 31
+kind 1 head 32 not 31
+kind 1 head 39 not 40
+kind 1 head 40 not 39
+kind 1 head 47 not 48
+kind 1 head 48 not 47
+kind 1 head 55 if 56
+kind 1 head 56 if 62
+kind 1 head 56 not 55
+kind 1 head 56 not 56
+kind 1 head 62 if 62
+"of 63 it is 8"
+kind 1 head 62 not 55
+kind 1 head 62 not 56
+kind 1 head 63 if 56
+kind 1 head 63 not 56
+"Only the first that applies is given, in number order"
+kind 0 head 255 if 63 not 63
+kind 1 head 15 if 63
+kind 1 head 16 if 63
+kind 2 head 16 if 63
+"""
 
 
 def level(atom):
@@ -38,27 +127,18 @@ def fault(kind, head, positive, negated):
     return None
 
 
-def answer(length, records):
-    """What the policy's test says of `length` bytes that begin with these records."""
-    if length > 2304:
+def tested(policy):
+    """What the policy's test says."""
+    if policy.length > 2304:
         return "refused 1 at 128"
-    if length % 18:
-        return f"refused 2 at {length // 18}"
-    for place, record in enumerate(records[: length // 18]):
-        number = fault(*record)
-        if number:
-            return f"refused {number} at {place}"
+    count, rest = divmod(policy.length, 18)
+    if rest:
+        return f"refused 2 at {count}"
+    for place, record in enumerate(policy.records[:count]):
+        broken = fault(*record)
+        if broken:
+            return f"refused {broken} at {place}"
     return "accepted"
-
-
-def one_record():
-    """The table of singles.rt: kind, head, positive and negated atom, three digits each; 064 for no atom."""
-    source = (ROOT / "crates/cases/src/singles.rt").read_text()
-    for kind, head, positive, negated in re.findall(r"^ +(\d+)_(\d{3})_(\d{3})_(\d{3}),", source, re.M):
-        sides = [set() if int(side) > 63 else {int(side)} for side in (positive, negated)]
-        name = f"kind {int(kind)} head {int(head)}"
-        name += "".join(f" {word} {atom}" for word, side in zip(("if", "not"), sides) for atom in side)
-        yield name, answer(18, [(int(kind), int(head), *sides)])
 
 
 def fields(session):
@@ -68,28 +148,32 @@ def fields(session):
     return f"request {session.request} {sets} count {session.count} {word}{waits}"
 
 
-def opening(request):
-    said = fields(fresh(request)) if is_service(request) else "refused 7"
-    return f"opening {request}", said
+def opened(request):
+    """What opening says."""
+    return fields(fresh(request)) if is_service(request) else "refused 7"
 
 
-def outcome(length, records, session, shown):
-    """What a round under the policy of `length` bytes that begins with these records says, and the next session."""
-    said, after = answer(length, records), session
+def outcome(policy, session, shown):
+    """What a round says, and the next session."""
+    said, after = tested(policy), session
     if said == "accepted":
         turned_back = refusal(session)
         said = f"refused {turned_back}"
         if not turned_back:
-            said, after = accepted_round(records, session, credentials(shown))
+            said, after = accepted_round(policy.records, session, credentials(shown))
     return f"{said}; {fields(after)}", after
 
 
-def round_in(name, length, records, session, shown):
-    return name, outcome(length, records, session, shown)[0]
+def replayed(policy, request, shown):
+    """Opening, and then a round for each shown set: what the last of these says."""
+    said, session = opened(request), fresh(request)
+    for some in shown if is_service(request) else ():
+        said, session = outcome(policy, session, some)
+    return said
 
 
-def under_a(name, session, shown):
-    return round_in(name, 108, POLICY_A, session, shown)
+def whole(records):
+    return Policy(18 * len(records), records)
 
 
 def made(request, shown, declined, count, word, question=0):
@@ -111,6 +195,64 @@ def granted(shown, declined, count):
 
 def denied(request, shown, declined, count):
     return made(request, shown, declined, count, "closed denied")
+
+
+def test(name, length, records):
+    policy = Policy(length, records)
+    return Case(TEST, name, policy, fresh(0), (), tested(policy))
+
+
+def opening(request):
+    return Case(OPENING, f"opening {request}", whole([]), fresh(request), (), opened(request))
+
+
+def round_in(name, policy, session, shown):
+    return Case(ROUND, name, policy, session, (shown,), outcome(policy, session, shown)[0])
+
+
+def in_turn(records, request, *rounds):
+    """Rounds from a fresh session on, each a name and a shown set; each gets the session that the one before gave back."""
+    policy, session = whole(records), fresh(request)
+    for name, shown in rounds:
+        said, after = outcome(policy, session, shown)
+        yield Case(ROUND, name, policy, session, (shown,), said)
+        session = after
+
+
+def replay(name, records, request, shown):
+    policy = whole(records)
+    return Case(LIST, name, policy, fresh(request), shown, replayed(policy, request, shown))
+
+
+def one_record():
+    for name in re.findall("^kind.*", ONE_RECORD, re.M):
+        kind, head = map(int, re.match(r"kind (\d+) head (\d+)", name).groups())
+        positive, negated = (set(map(int, re.findall(rf"{word} (\d+)", name))) for word in ("if", "not"))
+        yield test(name, 18, [(kind, head, positive, negated)])
+
+
+def policies():
+    for length in (0, 17, 18, 19, 2303, 2304, 2305, 2322):
+        yield test(f"{length} bytes", length, [ALWAYS_16] * 129)
+    yield from one_record()
+    yield test("16 if 0, 1", 18, [(1, 16, {0, 1}, set())])
+    yield test("16 if 0, 24", 18, [(1, 16, {0, 24}, set())])
+    yield test("24 if not 0, not 1", 18, [(1, 24, set(), {0, 1})])
+    yield test("24 if not 0, not 24", 18, [(1, 24, set(), {0, 24})])
+
+
+def records_in_turn():
+    three, six = (3, 16, set(), set()), (1, 17, set(), {24})
+    last = [ALWAYS_16] * 125 + [three, ALWAYS_16]
+    yield test("3 at record 127", 2304, [ALWAYS_16, ALWAYS_16, *last])
+    yield test("3 at records 1 and 127", 2304, [ALWAYS_16, three, *last])
+    yield test("6 at record 0, 3 at record 1", 2304, [six, three, *last])
+    yield test("the same, cut short", 2303, [six, three, *last])
+    yield test("the same, too long", 2305, [six, three, *last])
+
+
+def under_a(name, session, shown):
+    return round_in(name, whole(POLICY_A), session, shown)
 
 
 def soundness():
@@ -146,14 +288,15 @@ def closed_sessions():
 
 
 def order():
-    yield round_in("1 byte, request 15", 1, [], fresh(15, 1, 2, 3), 4)
-    yield round_in("1 byte, Q empty", 1, [], waiting(0, 1, 2, 3), 4)
-    yield round_in("1 byte, granted", 1, [], granted(1, 2, 3), 4)
-    yield round_in("1 byte, waiting", 1, [], waiting(8, 1, 2, 3), 4)
-    yield round_in("request 63, not sound", 0, [], fresh(63, 1, 2, 3), 4)
-    yield round_in("request 63, denied", 0, [], denied(63, 1, 2, 3), 4)
-    yield round_in("granted, not sound", 0, [], granted(1, 2, 4), 4)
-    yield round_in("granted, sound", 0, [], granted(1, 2, 3), 4)
+    one_byte, empty = Policy(1, [ALWAYS_16]), whole([])
+    yield round_in("1 byte, request 15", one_byte, fresh(15, 1, 2, 3), 4)
+    yield round_in("1 byte, Q empty", one_byte, waiting(0, 1, 2, 3), 4)
+    yield round_in("1 byte, granted", one_byte, granted(1, 2, 3), 4)
+    yield round_in("1 byte, waiting", one_byte, waiting(8, 1, 2, 3), 4)
+    yield round_in("request 63, not sound", empty, fresh(63, 1, 2, 3), 4)
+    yield round_in("request 63, denied", empty, denied(63, 1, 2, 3), 4)
+    yield round_in("granted, not sound", empty, granted(1, 2, 4), 4)
+    yield round_in("granted, sound", empty, granted(1, 2, 3), 4)
 
 
 def sessions():
@@ -177,17 +320,9 @@ def always(credential):
     return 2, credential, set(), set()
 
 
-def in_turn(policy, request, *rounds):
-    """Rounds from a fresh session on, each a name and a shown set; each gets the session that the one before gave back."""
-    session = fresh(request)
-    for name, shown in rounds:
-        said, session = outcome(18 * len(policy), policy, session, shown)
-        yield name, said
-
-
-def two(name, policy, request, shown):
+def two(name, records, request, shown):
     """Two rounds: nothing is shown, and then a set."""
-    return in_turn(policy, request, (name, 0), (name, shown))
+    return in_turn(records, request, (name, 0), (name, shown))
 
 
 def services():
@@ -212,21 +347,12 @@ def sizes_and_ties():
 def from_fresh():
     fifteen = access(16, 15)
     yield from two("16 if 15", [fifteen, always(15)], 16, 0x8000)
-    policy = [access(16, 7, 12), access(16, 14), always(7), always(12), always(14)]
-    yield from in_turn(policy, 16, ("16 if 7, 12; if 14", 0), ("14 declined", 0), ("7 and 12 shown", 0x1080))
+    records = [access(16, 7, 12), access(16, 14), always(7), always(12), always(14)]
+    yield from in_turn(records, 16, ("16 if 7, 12; if 14", 0), ("14 declined", 0), ("7 and 12 shown", 0x1080))
     yield from services()
     yield from two("61 records", [fifteen] * 60 + [always(15)], 16, 0x8000)
     yield from two("128 records", [fifteen] * 127 + [always(15)], 16, 0x8000)
     yield from sizes_and_ties()
-
-
-def replay(name, policy, request, shown):
-    """Opening, and then a round for each shown set: what the last of these says."""
-    said = opening(request)[1]
-    if is_service(request):
-        for _, said in in_turn(policy, request, *((name, some) for some in shown)):
-            pass
-    return name, said
 
 
 def replays():
@@ -242,31 +368,43 @@ def replays():
     yield replay("17 if not 24, request 15", broken, 15, shown[:2])
 
 
-def lines():
-    for length in (0, 17, 18, 19, 2303, 2304, 2305, 2322):
-        yield f"{length} bytes", answer(length, [ALWAYS_16] * 129)
-    yield from one_record()
-    yield "16 if 0, 1", answer(18, [(1, 16, {0, 1}, set())])
-    yield "16 if 0, 24", answer(18, [(1, 16, {0, 24}, set())])
-    yield "24 if not 0, not 1", answer(18, [(1, 24, set(), {0, 1})])
-    yield "24 if not 0, not 24", answer(18, [(1, 24, set(), {0, 24})])
-    records = [ALWAYS_16] * 129
-    records[127] = (3, 16, set(), set())
-    yield "3 at record 127", answer(2304, records)
-    records[1] = (3, 16, set(), set())
-    yield "3 at records 1 and 127", answer(2304, records)
-    records[0] = (1, 17, set(), {24})
-    yield "6 at record 0, 3 at record 1", answer(2304, records)
-    yield "the same, cut short", answer(2303, records)
-    yield "the same, too long", answer(2305, records)
+def cases():
+    yield from policies()
+    yield from records_in_turn()
     yield from sessions()
     yield from from_fresh()
     yield from replays()
 
 
+def numbers(case):
+    """The numbers that the question takes."""
+    request, shown, declined, count, (word, question) = case.session
+    if case.asked == TEST:
+        return ()
+    if case.asked == OPENING:
+        return (request,)
+    if case.asked == ROUND:
+        return request, number(shown), number(declined), count, PHASES.index(word), number(question), *case.shown
+    assert len(case.shown) <= MOST_ROUNDS
+    return request, len(case.shown), *case.shown, *[0] * (MOST_ROUNDS - len(case.shown))
+
+
+def packed(*some):
+    return struct.pack(f"<{len(some)}H", *some)
+
+
+def written(case):
+    """A case as the program reads it."""
+    start = f"{case.name}: ".encode()
+    policy = b"".join(encoded(*record) for record in case.policy.records)[: case.policy.length]
+    return packed(case.asked, len(start), len(start + policy)) + start + policy + packed(*numbers(case))
+
+
 def main():
-    text = "".join(f"{name}: {said}\n" for name, said in lines())
-    return stored([("crates/cases/stdout", text.encode())])
+    every = list(cases())
+    inputs = b"".join(map(written, every))
+    lines = "".join(f"{case.name}: {case.said}\n" for case in every)
+    return stored([("crates/cases/stdin", inputs), ("crates/cases/stdout", lines.encode())])
 
 
 sys.exit(main())

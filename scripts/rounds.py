@@ -1,4 +1,4 @@
-"""Document 01's sessions, from its definitions and not from our code.
+"""Document 01's records and sessions, from its definitions and not from our code.
 
 A policy is a list of records: kind, head, positive atoms, negated atoms.
 """
@@ -19,6 +19,11 @@ POLICY_A = [
 
 def number(atoms):
     return sum(1 << atom for atom in atoms)
+
+
+def encoded(kind, head, positive, negated):
+    """A record's 18 bytes."""
+    return bytes([kind, head]) + b"".join(number(side).to_bytes(8, "little") for side in (positive, negated))
 
 
 def credentials(bits):

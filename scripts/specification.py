@@ -1,14 +1,18 @@
 #!/usr/bin/env python3
-"""Checks docs/SPECIFICATION.md, where document 01 is ticked off sentence by sentence.
+"""Checks docs/SPECIFICATION.md, where document 01 is ticked off sentence by sentence, and what is quoted from the papers.
 
-    scripts/specification.py                 every file and name in backticks is there
-    scripts/specification.py --paper PATH    and the page has document 01 (its file 01-scope.md), whole and in order
-    scripts/specification.py --letter PATH   and the customer's three demands (in 00-customers-letter.md)
+    scripts/specification.py                 every file and name in backticks on the page is there
+    scripts/specification.py --papers DIR    and all that is quoted stands in the papers, the .md and .txt files in DIR
 
 What stands in backticks is a file if it has a slash, and else a name, which has to be in the file before it, in the same cell of a
-table or the same line of text. Comments do not count. Files are in crates, or else in the repository's root. What is wrong is
-printed, and the exit status is then 1. Headings and first columns from document 01's title on have to be its text and nothing
-more, and first columns before it the demands; white space and marks of layout are not compared.
+table or the same line of text. Comments do not count. Files are in crates, or else in the repository's root.
+
+With the papers, headings and first columns from document 01's title on have to be the text of 01-scope.md, whole, in order and
+nothing more, and first columns before it the three demands of 00-customers-letter.md. What stands in quotation marks, on the page,
+in docs/DECISIONS.md and in the comments of crates/*/specs, has to be in one of the papers, word for word; `..` and `...` leave
+something out, and fewer than three words are not looked for. White space and marks of layout are not compared.
+
+What is wrong is printed, and the exit status is then 1.
 """
 import argparse
 import pathlib
@@ -17,7 +21,9 @@ import sys
 
 from stored import ROOT
 
+LETTER, SCOPE = "00-customers-letter.md", "01-scope.md"
 PAGE = "docs/SPECIFICATION.md"
+DECISIONS = "docs/DECISIONS.md"
 TITLE = "The station gate: policies, sessions, questions"
 COMMENTS = {".antt": r"^ *--.*$", ".rt": r"^ *//.*$"}
 
@@ -31,7 +37,7 @@ def text_of(name):
 
 
 def names_missing(page):
-    decisions = text_of("docs/DECISIONS.md")
+    decisions = text_of(DECISIONS)
     for part in re.split(r"\n| \| ", page):
         file, text = None, ""
         for name in re.findall(r"`([^`]+)`", part):
@@ -49,7 +55,8 @@ def names_missing(page):
 
 
 def plain(text):
-    return " ".join(re.sub(r"<br>|[\\*`]|^ *(#+|-) ", " ", text, flags=re.M).split())
+    """Text without marks of layout, its lines joined."""
+    return " ".join(re.sub(r"[\\*`]", "", re.sub(r"<br>|^ *(#+|-+) ", " ", text, flags=re.M)).split())
 
 
 def first_columns(part, headings):
@@ -84,18 +91,70 @@ def paper_differs(quoted, paper):
         yield f"not in the paper: {text[at:].strip()}"
 
 
-def main():
-    arguments = argparse.ArgumentParser(description="Checks docs/SPECIFICATION.md.")
-    arguments.add_argument("--paper", metavar="PATH", type=pathlib.Path, help="document 01, 01-scope.md")
-    arguments.add_argument("--letter", metavar="PATH", type=pathlib.Path, help="the customer's letter, 00-customers-letter.md")
-    page, given = (ROOT / PAGE).read_text(), arguments.parse_args()
+def page_differs(page, papers):
     before, title, after = page.partition(f"## {TITLE}\n")
+    yield from paper_differs(first_columns(before, False), demands(papers[LETTER]))
+    yield from paper_differs(first_columns(title + after, True), papers[SCOPE])
+
+
+def quoting():
+    """The texts that quote, each with its file: paragraphs and rows of the pages, comments of specs."""
+    for name in (PAGE, DECISIONS):
+        for part in re.split(r"\n\n|\n(?=\| )", (ROOT / name).read_text()):
+            yield name, plain(part)
+    for path in sorted(ROOT.glob("crates/*/specs/**/*.antt")):
+        for comment in re.findall(r"(?:^ *--.*\n)+", path.read_text(), re.M):
+            yield path.relative_to(ROOT), plain(comment)
+
+
+def quotations(text):
+    """What stands in quotation marks, with the marks inside it; None where they do not pair. After a space or bracket they open."""
+    depth, start = 0, 0
+    for marks in re.finditer(r'"+', text):
+        if marks.start() == 0 or text[marks.start() - 1] in " ([":
+            start = start if depth else marks.start() + 1
+            depth += len(marks[0])
+        else:
+            depth -= len(marks[0])
+            if depth < 0:
+                break
+            if depth == 0:
+                yield text[start:marks.end() - 1]
+    if depth:
+        yield None
+
+
+def is_quoted(quotation, text):
+    parts = re.split(r" ?\.{2,} ?", quotation)
+    return re.search(r"(?<!\w)" + r"(?!\w).*?(?<!\w)".join(map(re.escape, parts)) + r"(?!\w)", text)
+
+
+def misquoted(papers):
+    texts = [plain(paper) for paper in papers.values()]
+    for name, text in quoting():
+        for quotation in quotations(text):
+            if quotation is None:
+                yield f"{name}: quotation marks that do not pair: {text}"
+            elif len(quotation.split()) >= 3 and not any(is_quoted(quotation, paper) for paper in texts):
+                yield f"{name}: in no paper: {quotation}"
+
+
+def papers_in(folder):
+    files = [path for path in sorted(folder.glob("*")) if path.suffix in (".md", ".txt")]
+    return {path.name: path.read_text(encoding="utf-8", errors="replace") for path in files}
+
+
+def main():
+    arguments = argparse.ArgumentParser(description=f"Checks {PAGE}, and what is quoted from the papers.")
+    arguments.add_argument("--papers", metavar="DIR", type=pathlib.Path, help="the folder of the papers")
+    page, given = (ROOT / PAGE).read_text(), arguments.parse_args()
     wrong = list(names_missing(page))
-    if given.letter:
-        wrong += paper_differs(first_columns(before, False), demands(given.letter.read_text(encoding="utf-8")))
-    if given.paper:
-        wrong += paper_differs(first_columns(title + after, True), given.paper.read_text(encoding="utf-8"))
-    print("\n".join(wrong) or f"{PAGE} is right")
+    if given.papers:
+        papers = papers_in(given.papers)
+        if LETTER not in papers or SCOPE not in papers:
+            arguments.error(f"{given.papers} has not both {LETTER} and {SCOPE}")
+        wrong += [*page_differs(page, papers), *misquoted(papers)]
+    print("\n".join(wrong) or f"{PAGE} is right" + (", and all quotations" if given.papers else ""))
     return 1 if wrong else 0
 
 

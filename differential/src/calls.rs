@@ -83,7 +83,7 @@ pub trait Version {
     fn call(&mut self, call: Call, policy: &mut [u8], memory: &mut Memory) -> u32;
 }
 
-/// The parts of a reply (include/gate.h).
+/// What include/gate.h's macros read of a reply.
 pub fn refusal_of(reply: u32) -> u32 {
     reply & 0xff
 }
@@ -92,8 +92,9 @@ pub fn ending_of(reply: u32) -> u32 {
     reply >> 8 & 0xff
 }
 
-pub fn asked_of(reply: u32) -> u16 {
-    (reply >> 16) as u16
+/// The set that a session asks for.
+pub fn asked_of(session: [u8; 10]) -> u16 {
+    u16::from_le_bytes([session[8], session[9]])
 }
 
 /// "enum { GATE_GRANT = 1, GATE_DENY = 2, GATE_ASK = 3 }"

@@ -54,7 +54,7 @@ fn session(version: &mut dyn Version, policy: &[u8], request: u16, shown: &[u16]
         words.push(match (refusal_of(reply), ending_of(reply)) {
             (0, GRANT) => "grant".to_string(),
             (0, DENY) => "deny".to_string(),
-            (0, ASK) => format!("{:04x}", asked_of(reply)),
+            (0, ASK) => format!("{:04x}", asked_of(memory.session())),
             (number, _) => format!("refused {number}"),
         });
     }

@@ -11,29 +11,30 @@ use crate::plain::policy::Record;
 use crate::plain::session::Ending;
 use crate::policies;
 use crate::report::Trail;
-use crate::scenarios::{credentials, request, still_sound};
+use crate::requests::{credentials, request};
 use crate::tester::Tester;
 use crate::tuned;
 
 /// A service for which a client who shows nothing is asked something, if a few tries find one.
 fn request_with_question(tester: &mut Tester, records: &[Record]) -> u16 {
-    let mut service = request(tester, records);
+    let mut service = request(&mut tester.random, records);
     for _ in 0..4 {
         let accepted = tuned::check(tester.policy());
         let asks = accepted.is_ok_and(|all| !closes(tuned::ending(all, service, 0, 0)));
         if asks || tester.random.one_in(5) {
             break;
         }
-        service = request(tester, records);
+        service = request(&mut tester.random, records);
     }
     service
 }
 
-fn ending(reply: u32) -> Ending {
+/// How a round ended, read off the reply and the session that it left.
+fn ending(reply: u32, session: [u8; 10]) -> Ending {
     match ending_of(reply) {
         GRANT => Ending::Grant,
         DENY => Ending::Deny,
-        _ => Ending::Ask(asked_of(reply)),
+        _ => Ending::Ask(asked_of(session)),
     }
 }
 
@@ -80,14 +81,13 @@ fn play(tester: &mut Tester, list: &mut List, kind: Kind, p: u16) -> bool {
     if let Some(trail) = &mut tester.trail {
         trail.shown.push(p);
     }
-    let Some((reply, memory)) = tester.case(kind, Call::Round(p), list.memory) else {
+    let Some((reply, memory)) = tester.round(kind, p, list.memory) else {
         return false;
     };
-    still_sound(tester, reply, Call::Round(p), memory);
     list.rounds += 1;
     list.memory = memory;
     if refusal_of(reply) == 0 {
-        let ending = ending(reply);
+        let ending = ending(reply, memory.session());
         list.accepted.push(Accepted { p, ending });
     }
     true
@@ -187,7 +187,7 @@ pub fn lists(tester: &mut Tester) {
 
 /// At most ten credentials, for their parts are all tried.
 fn holding(tester: &mut Tester, records: &[Record]) -> u16 {
-    let mut set = credentials(tester, records);
+    let mut set = credentials(&mut tester.random, records);
     while set.count_ones() > 10 {
         set &= set - 1;
     }
@@ -205,7 +205,7 @@ pub fn cooperative_lists(tester: &mut Tester) {
     };
     tester.set_policy(policies::encode(&records));
     for _ in 0..2 {
-        let request = request(tester, &records);
+        let request = request(&mut tester.random, &records);
         let first = match tester.random.below(3) {
             0 => tester.random.credentials(held),
             _ => 0,

@@ -60,13 +60,14 @@ pub fn answer(who: &str, reply: u32, memory: &Memory) -> String {
 }
 
 impl Shared {
-    pub fn new(folder: PathBuf, bench: PathBuf, quiet: bool) -> Shared {
+    /// Of a repository that stands in this folder.
+    pub fn new(root: &Path, quiet: bool) -> Shared {
         Shared {
             cases: AtomicU64::new(0),
             disagreements: AtomicU64::new(0),
             stop: AtomicBool::new(false),
-            folder,
-            bench,
+            folder: root.join("target/differential"),
+            bench: root.join("target/bin/bench"),
             quiet,
             printing: Mutex::new(()),
         }

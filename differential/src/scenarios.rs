@@ -3,51 +3,14 @@
 use crate::calls::{refusal_of, Call, Memory};
 use crate::counts::Kind;
 use crate::damage::{boundary, damaged};
-use crate::definition;
-use crate::plain::interface::decode;
+use crate::plain::interface::encode;
 use crate::plain::policy::Record;
 use crate::play::{changing_list, cooperative_lists, lists};
 use crate::policies;
 use crate::questions::questions;
+use crate::requests::{credentials, named, request};
 use crate::sessions;
 use crate::tester::Tester;
-
-/// The services that a policy has rules for.
-fn services(records: &[Record]) -> Vec<u16> {
-    let heads = records.iter().map(|record| u16::from(record.head));
-    heads.filter(|head| (16..63).contains(head)).collect()
-}
-
-/// The credentials that a policy speaks of.
-fn named(records: &[Record]) -> u16 {
-    records.iter().fold(0, |set, record| {
-        let head = if record.head < 16 {
-            1 << record.head
-        } else {
-            0
-        };
-        set | head | record.positive as u16 | record.negative as u16
-    })
-}
-
-/// A service of the policy's, mostly.
-pub(crate) fn request(tester: &mut Tester, records: &[Record]) -> u16 {
-    let services = services(records);
-    if services.is_empty() || tester.random.one_in(12) {
-        tester.random.range(16, 62) as u16
-    } else {
-        tester.random.pick(&services)
-    }
-}
-
-/// Credentials of the policy's, or any.
-pub(crate) fn credentials(tester: &mut Tester, records: &[Record]) -> u16 {
-    if tester.random.one_in(5) {
-        tester.random.word()
-    } else {
-        tester.random.credentials(named(records))
-    }
-}
 
 fn openings(tester: &mut Tester) {
     tester.set_policy(Vec::new());
@@ -70,12 +33,12 @@ fn sets(tester: &mut Tester) {
     let memory = tester.memory();
     tester.case(Kind::CheckAccepted, Call::Check, memory);
     for _ in 0..5 {
-        let set = credentials(tester, &records);
+        let set = credentials(&mut tester.random, &records);
         let memory = tester.memory();
         tester.case(Kind::Model, Call::Model(set), memory);
     }
     for _ in 0..3 {
-        let set = credentials(tester, &records);
+        let set = credentials(&mut tester.random, &records);
         let memory = tester.memory();
         tester.case(Kind::Disclosable, Call::Disclosable(set), memory);
     }
@@ -116,7 +79,6 @@ fn damages(tester: &mut Tester) {
 /// Ten bytes of some kind.
 fn any_session(tester: &mut Tester, request: u16, named: u16) -> (Kind, [u8; 10]) {
     let random = &mut tester.random;
-    let encode = crate::plain::interface::encode;
     match random.below(10) {
         0..=4 => (
             Kind::RoundSound,
@@ -136,7 +98,7 @@ fn single_rounds(tester: &mut Tester) {
     let records = policies::accepted(&mut tester.random);
     tester.set_policy(policies::encode(&records));
     for _ in 0..8 {
-        let request = request(tester, &records);
+        let request = request(&mut tester.random, &records);
         let (kind, session) = any_session(tester, request, named(&records));
         let memory = tester.memory_with(session);
         rounds_from(tester, &records, kind, memory);
@@ -148,25 +110,15 @@ fn rounds_from(tester: &mut Tester, records: &[Record], kind: Kind, mut memory: 
     loop {
         let p = match tester.random.below(3) {
             0 => 0,
-            _ => credentials(tester, records),
+            _ => credentials(&mut tester.random, records),
         };
-        let Some((reply, after)) = tester.case(kind, Call::Round(p), memory) else {
+        let Some((reply, after)) = tester.round(kind, p, memory) else {
             return;
         };
-        still_sound(tester, reply, Call::Round(p), after);
         if refusal_of(reply) != 0 || tester.random.one_in(2) {
             return;
         }
         memory = after;
-    }
-}
-
-/// "Every session that opening and rounds give is sound"
-pub(crate) fn still_sound(tester: &mut Tester, reply: u32, call: Call, memory: Memory) {
-    let session = decode(memory.session());
-    if refusal_of(reply) == 0 && !session.is_some_and(|s| definition::sound(&s)) {
-        let answers = vec![format!("reply {reply:08x}")];
-        tester.found("an unsound session given".into(), call, memory, answers);
     }
 }
 

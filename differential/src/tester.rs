@@ -2,7 +2,7 @@
 
 use crate::calls::{refusal_of, Call, Memory, Version};
 use crate::counts::{Counts, Kind};
-use crate::definition::{cost, stable_sets, Definition};
+use crate::definition::{cost, sound, stable_sets, Definition};
 use crate::plain::disclosure::disclosable;
 use crate::plain::interface::{decode, Plain};
 use crate::plain::policy::{check, Policy};
@@ -143,6 +143,18 @@ impl<'a> Tester<'a> {
             return None;
         }
         Some((reply, memory))
+    }
+
+    /// A round: a case, and "Every session that opening and rounds give is sound".
+    pub fn round(&mut self, kind: Kind, p: u16, before: Memory) -> Option<(u32, Memory)> {
+        let call = Call::Round(p);
+        let (reply, after) = self.case(kind, call, before)?;
+        let session = decode(after.session());
+        if refusal_of(reply) == 0 && !session.is_some_and(|s| sound(&s)) {
+            let answers = vec![format!("reply {reply:08x}")];
+            self.found("an unsound session given".into(), call, after, answers);
+        }
+        Some((reply, after))
     }
 
     /// Counts the question that a round has given, beside what may be asked.

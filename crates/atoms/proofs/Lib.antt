@@ -1,7 +1,5 @@
--- The laws of tests, of maps, of sets as numbers, of sizes and of bytes.
-pub mod TestLaws
+-- The laws of maps, of sets as numbers, and of sizes.
 pub mod MapLaws
 pub mod SetLaws
 pub mod SizeLaws
-pub mod ByteLaws
 pub mod MeaningProof

@@ -3,13 +3,13 @@ use mathlib.Core.Path.{_≡_, subst, sym}
 use mathlib.Core.Logic.{_↔_, _⊎_, inl, inr}
 use Prim.Native.Nat.{_<_, _^_, _≤_, ℕ}
 use native.Mathlib.Omega.{arith}
+use Rattle.encoding.proofs.ByteLaws.{littleEndian-lt}
+use Rattle.validation.proofs.TestLaws.{eqb-true, true-eqb}
 use Rattle.atoms.specs.Atoms.{violation}
 use Rattle.atoms.specs.Meaning.{Meaning}
 use Rattle.atoms.specs.Sets.{Member, bit, single, union}
-use Rattle.atoms.proofs.ByteLaws.{littleEndian-lt}
-use Rattle.atoms.proofs.SetLaws.{difference-iff, disjoint-true, intersection-iff, member-low, none-in-empty, single-cases, single-own, subset-antisym, subset-true, true-disjoint, true-subset, union-cases, union-left, union-right}
+use Rattle.atoms.proofs.SetLaws.{difference-iff, disjoint-true, intersection-iff, member-low, none-in-empty, setOf-iff, single-cases, single-own, subset-antisym, subset-true, true-disjoint, true-subset, union-cases, union-left, union-right}
 use Rattle.atoms.proofs.SizeLaws.{low-lt, size-is, size-le, size-same}
-use Rattle.atoms.proofs.TestLaws.{eqb-true, true-eqb}
 
 atoms : (s k : ℕ) → s < 2 ^ 64 → Member k s → k ≤ violation
 atoms s k l m = omega (arith, member-low s 64 k l m)
@@ -34,6 +34,7 @@ meaning = record {
   credentials = λ s. (λ l k m. omega (arith, member-low s 16 k l m), λ f. low-lt s 16 (λ k m. omega (arith, f k m)));
   nothing = none-in-empty;
   singles = singles;
+  lists = setOf-iff;
   unions = unions;
   intersections = intersection-iff;
   differences = difference-iff;

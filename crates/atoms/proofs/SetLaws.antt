@@ -2,18 +2,20 @@
 use mathlib.Core.Path.{_∙_, _≡_, ap, refl, subst, sym}
 use mathlib.Core.Logic.{_↔_, _≢_, _⊎_, inl, inr}
 use mathlib.Core.Bool.{Bool, cond, false, true}
+use mathlib.Core.List.{List, [], _∷_}
 use Prim.Native.Nat.{_%_, _*_, _+_, _-_, _/_, _<_, _^_, _≤_, max, min, suc, zero, ℕ}
 use lib.Arith.{bin-ind, half-le}
-use lib.Bits.{and-le-l, and-le-r, and-shr, and-step, bitAnd, bitOr, or-shr, or-step}
+use lib.Bits.{and-le-l, and-shr, and-step, bitAnd, bitOr, or-shr, or-step}
 use lib.Dec.{leb, leb→le}
 use lib.Pow.{pow-mono, pow-pos, shr-shr}
 use native.Mathlib.Decide.{decLt, ℕ-discrete}
 use native.Mathlib.Nat.{div-eq-of-lt, div-one, le-of-suc-le-suc, lt-of-lt-of-le, mod-lt, not-suc-le-zero, zero-div, zero-lt-suc}
 use native.Mathlib.Numerals.{one-add}
 use native.Mathlib.Omega.{arith}
+use Rattle.lists.specs.Lists.{Every, OneOf}
+use Rattle.validation.proofs.TestLaws.{eqb-true, le-true, true-T, true-eqb}
 use Rattle.atoms.specs.Atoms.{violation}
-use Rattle.atoms.specs.Sets.{Member, Subset, bit, difference, disjoint, intersection, single, subset, union}
-use Rattle.atoms.proofs.TestLaws.{eqb-true, le-true, true-T, true-eqb}
+use Rattle.atoms.specs.Sets.{Member, Subset, bit, difference, disjoint, intersection, setOf, single, subset, union}
 
 -- ---- one bit
 
@@ -228,10 +230,6 @@ true-disjoint a b f =
     (λ k m. absurd (let p = intersection-iff a b k .0 m in f k (p .0) (p .1)))
     (empty-subset (intersection a b)))
 
--- a subset is no larger a number
-pub subset-le : (a b : ℕ) → Subset a b → a ≤ b
-subset-le a b f = subst (λ (x : ℕ). x ≤ b) (eqb-true _ _ (true-subset a b f)) (and-le-r a b)
-
 -- ---- the set of one atom
 
 pub single-is : (h : ℕ) → h ≤ violation → single h ≡ 2 ^ h
@@ -256,3 +254,18 @@ single-cases h k m = go (leb h violation) refl m
 
 pub member-single : (h k : ℕ) → Member k (single h) → k ≡ h
 member-single h k m = single-cases h k m .0
+
+-- ---- the set of the atoms of a list
+
+pub setOf-iff : (ks : List ℕ) → Every (λ h. h ≤ violation) ks → (k : ℕ) → Member k (setOf ks) ↔ OneOf k ks
+unfolding setOf
+setOf-iff [] f k = (none-in-empty k, λ x. absurd x)
+setOf-iff (h ∷ hs) f k = (λ m. forth (union-cases (single h) (setOf hs) k m) (setOf-iff hs (f .1) k .0), λ x. back x (setOf-iff hs (f .1) k .1))
+  where
+    forth : Member k (single h) ⊎ Member k (setOf hs) → (Member k (setOf hs) → OneOf k hs) → (k ≡ h) ⊎ OneOf k hs
+    forth (inl i) ih = inl (member-single h k i)
+    forth (inr i) ih = inr (ih i)
+
+    back : (k ≡ h) ⊎ OneOf k hs → (OneOf k hs → Member k (setOf hs)) → Member k (union (single h) (setOf hs))
+    back (inl e) ih = union-left (single h) (setOf hs) k (subst (λ (x : ℕ). Member x (single h)) (sym e) (single-own h (f .0)))
+    back (inr x) ih = union-right (single h) (setOf hs) k (ih x)

@@ -1,5 +1,4 @@
 -- Atoms and sets of atoms, in the order of reading.
 pub mod Atoms
 pub mod Sets
-pub mod LittleEndian
 pub mod Meaning

@@ -6,9 +6,10 @@ use mathlib.Core.List.{List}
 use Prim.Native.Nat.{_<_, _^_, _≤_, ℕ}
 use lib.Count.{ones as countOnes}
 use lib.ListN.{length}
+use Rattle.encoding.specs.LittleEndian.{Bytes, littleEndian}
+use Rattle.lists.specs.Lists.{Every, OneOf}
 use Rattle.atoms.specs.Atoms.{lastCredential, violation}
-use Rattle.atoms.specs.LittleEndian.{Bytes, littleEndian}
-use Rattle.atoms.specs.Sets.{Member, Subset, difference, disjoint, empty, intersection, member, single, size, subset, union}
+use Rattle.atoms.specs.Sets.{Member, Subset, difference, disjoint, empty, intersection, member, setOf, single, size, subset, union}
 
 pub record Meaning : Type 0 where
   -- "A set of atoms is a 64-bit number": it is what it holds of the atoms 0 to 63
@@ -18,6 +19,7 @@ pub record Meaning : Type 0 where
   pub credentials : (s : ℕ) → (s < 2 ^ 16) ↔ ((k : ℕ) → Member k s → k ≤ lastCredential)
   pub nothing : (k : ℕ) → Member k empty → ⊥
   pub singles : (h k : ℕ) → Member k (single h) ↔ ((k ≡ h) × (h ≤ violation))
+  pub lists : (ks : List ℕ) → Every (λ h. h ≤ violation) ks → (k : ℕ) → Member k (setOf ks) ↔ OneOf k ks
   pub unions : (a b k : ℕ) → Member k (union a b) ↔ (Member k a ⊎ Member k b)
   pub intersections : (a b k : ℕ) → Member k (intersection a b) ↔ (Member k a × Member k b)
   pub differences : (a b k : ℕ) → Member k (difference a b) ↔ (Member k a × (Member k b → ⊥))

@@ -1,6 +1,7 @@
 -- Document 01, "Atoms and records": sets of atoms as numbers. specs/Meaning says what each operation means, atom by atom. Assumes nothing.
 use mathlib.Core.Path.{_≡_}
 use mathlib.Core.Bool.{Bool, cond}
+use mathlib.Core.List.{List, [], _∷_}
 use Prim.Native.Nat.{_%_, _-_, _/_, _^_, ℕ}
 use lib.Bits.{bitAnd, bitOr}
 use lib.Count.{onesIn}
@@ -49,3 +50,8 @@ single k = cond (leb k violation) (2 ^ k) empty
 unfoldable pub size : ℕ → ℕ
 unfolding onesIn
 size s = onesIn 64 s
+
+-- the set of the atoms of a list
+unfoldable pub setOf : List ℕ → ℕ
+setOf [] = empty
+setOf (k ∷ ks) = union (single k) (setOf ks)

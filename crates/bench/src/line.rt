@@ -1,7 +1,7 @@
 // A line of output, written in one piece.
 use libc::STDOUT_FILENO;
 
-// More than the longest line: "round 255 got ffff ask ffff".
+// More than the longest line, round 255 got ffff ask ffff.
 const LINE_BYTES: usize = 32;
 
 pub(crate) struct Line {

@@ -1,6 +1,7 @@
 // The bench program (document 01, "The bench program"): sessions by hand, a line a round.
 use input::Input;
 use policy::Checked;
+use session::Move;
 use session::Opened;
 use session::Session;
 
@@ -64,7 +65,7 @@ fn round(policy: &[u8], session: Session) -> Next {
     let Input::Record(shown) = input else {
         return Next::End;
     };
-    let outcome = session.round(policy, shown);
+    let outcome = session.round(policy, Move { shows: shown });
     let answer = outcome.answer;
     let after = outcome.session;
     print::answer(answer, after.count, shown);

@@ -18,7 +18,7 @@ fn ended(ending: Ending, count: u8, shown: u16) {
     match ending {
         Ending::Grant => line.text(b" grant").write(),
         Ending::Deny => line.text(b" deny").write(),
-        Ending::Ask(asked) => line.text(b" ask ").set(asked).write(),
+        Ending::Ask(question) => line.text(b" ask ").set(question.asks).write(),
     }
 }
 

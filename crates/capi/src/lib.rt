@@ -1,23 +1,23 @@
 // The gate for C (include/gate.h): a policy is bytes, a session is ten bytes that the caller lends, and an answer is a number.
 ghost use mathlib.Core.Path.{_≡_};
-ghost use Rattle.policy.specs.PolicyTest.{policyRefusal};
-ghost use Rattle.model.specs.Answers.{disclosableAnswer, modelAnswer};
-ghost use Rattle.capi.specs.Exports.{checkReply, noSessionReply, openCall, roundCall, setAfter, setReply};
-use model::Disclosed;
+ghost use Rattle.form.specs.PolicyTest.{policyRefusal};
+ghost use Rattle.disclosure.specs.Answers.{disclosableAnswer};
+ghost use Rattle.model.specs.Answers.{modelAnswer};
+ghost use Rattle.packing.specs.Exports.{checkReply, noSessionReply, openCall, roundCall, setAfter, setReply};
+use disclosure::Disclosed;
 use model::Modelled;
-use packed::RECORD_BYTES;
-use packed::Unpacked;
-use packed::pack;
-use packed::unpack;
 use policy::Checked;
 use policy::check;
-use reply::DONE;
+use session::Move;
 use session::Opened;
 use session::Session;
 use session::answer::Answer;
-
-mod packed;
-mod reply;
+use wire::packed::RECORD_BYTES;
+use wire::packed::Unpacked;
+use wire::packed::pack;
+use wire::packed::unpack;
+use wire::reply;
+use wire::reply::DONE;
 
 // The policy's test.
 #[no_mangle]
@@ -54,7 +54,7 @@ pub extern "C" fn gate_disclosable(policy: &[u8], shown: u16, set: &mut u16) -> 
     ensures written { λ _. ⌜ now (set .exit) ≡ setAfter (disclosableAnswer (now (policy .entry)) shown) (now (set .entry)) ⌝ }
     ensures unchanged { λ _. ⌜ now (policy .exit) ≡ now (policy .entry) ⌝ }
 {
-    match model::disclosable(policy, shown) {
+    match disclosure::disclosable(policy, shown) {
         Disclosed::Set(credentials) => {
             *set = credentials;
             DONE
@@ -89,7 +89,7 @@ pub extern "C" fn gate_round(policy: &[u8], session: &mut [u8; RECORD_BYTES], sh
     let Unpacked::Session(before) = held else {
         return no_session(policy);
     };
-    let outcome = before.round(policy, shown);
+    let outcome = before.round(policy, Move { shows: shown });
     let answer = outcome.answer;
     let after = outcome.session;
     match answer {

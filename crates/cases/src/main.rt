@@ -1,31 +1,15 @@
-// Document 01's run-only cases, more rounds and lists of rounds: prints the answer to each.
-mod policies;
+// Document 01's run-only cases, more rounds and lists of rounds: reads each case and prints the answer to it.
+mod case;
+mod input;
 mod print;
-mod replays;
-mod rounds;
-mod sessions;
-mod singles;
-mod write;
+
+// A proved loop has to end: no more cases are read.
+const MOST_CASES: u64 = 65536;
 
 fn main() {
-    policies::lengths();
-    singles::run();
-    policies::pairs();
-    policies::records_in_turn();
-    sessions::openings();
-    sessions::requests();
-    sessions::fresh_sessions();
-    sessions::questions();
-    sessions::counts();
-    sessions::closed_sessions();
-    sessions::order();
-    sessions::breaches();
-    rounds::high_credentials();
-    rounds::services();
-    rounds::long_policies();
-    rounds::fewest();
-    rounds::smallest();
-    rounds::largest();
-    replays::policy_a();
-    replays::refused_policy();
+    let mut space = io::buffer();
+    let mut left = MOST_CASES;
+    while left > 0 && case::run(&mut space) {
+        left -= 1;
+    }
 }

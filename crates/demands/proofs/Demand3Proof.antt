@@ -5,27 +5,33 @@ use mathlib.Core.List.{List, [], _∷_}
 use Prim.Native.Nat.{_+_, suc, ℕ}
 use lib.ListN.{length}
 use native.Mathlib.Omega.{arith}
-use Rattle.atoms.specs.LittleEndian.{Bytes}
+use Rattle.encoding.specs.LittleEndian.{Bytes}
+use Rattle.lists.specs.Each.{Each, Past}
+use Rattle.lists.specs.Lists.{Every}
+use Rattle.lists.specs.Runs.{Turn}
+use Rattle.lists.proofs.EachLaws.{each-both, each-imp, each-length, each-past}
 use Rattle.atoms.specs.Sets.{difference, size}
-use Rattle.rules.specs.Rules.{Every}
-use Rattle.policy.specs.WrittenForm.{WellFormed}
-use Rattle.policy.proofs.PolicyLaws.{disclosure-heads}
-use Rattle.model.specs.Disclosure.{askable}
-use Rattle.model.proofs.DisclosureLaws.{Low}
-use Rattle.session.specs.Endings.{Policy, deny, grant, policyOf}
-use Rattle.session.specs.Rounds.{Move, Outcome, Turn, round, run}
-use Rattle.session.specs.Sessions.{Service, Session, opened}
+use Rattle.rules.specs.Policy.{Policy}
+use Rattle.records.specs.Policies.{policyOf}
+use Rattle.form.proofs.PolicyLaws.{disclosure-heads}
+use Rattle.form.specs.WrittenForm.{WellFormed}
+use Rattle.disclosure.proofs.DisclosureLaws.{Low}
+use Rattle.disclosure.specs.Disclosure.{askable}
+use Rattle.rounds.specs.Moves.{Move}
+use Rattle.rounds.specs.Endings.{deny, grant}
+use Rattle.rounds.specs.Rounds.{Outcome, roundsOf}
+use Rattle.rounds.specs.Sessions.{Service, Session, opened}
 use Rattle.demands.specs.Demand2.{Demand2, DeniedWhen}
-use Rattle.demands.specs.Demand3.{Admitted, AllRespond, Client, Demand3, SessionsSay}
-use Rattle.demands.specs.Lists.{ByRound, Each, Final, Linked, Round, acceptedOf, declinedBy, phaseFrom, sessionFrom, shownBy}
+use Rattle.demands.specs.Demand3.{Admitted, AllRespond, Client, Demand3, Demand3Holds, SessionsSay}
+use Rattle.demands.specs.Lists.{ByRound, Final, Round, acceptedOf, declinedBy, phaseFrom, sessionFrom, shownBy}
 use Rattle.demands.proofs.AnswerProof.{demand2, denied-when, licensed-test}
 use Rattle.demands.proofs.ClientLaws.{LicensedTest, Replies, admitted-last, admitted-length, never-denied}
-use Rattle.demands.proofs.EachLaws.{Past, each-both, each-imp, each-length, each-past}
 use Rattle.demands.proofs.EndLaws.{ends-within, over-granted}
+use Rattle.demands.proofs.PromiseProof.{opened-by}
 use Rattle.demands.proofs.RoundLaws.{Genuine, bounded-last, bounded-length, once}
-use Rattle.demands.proofs.RunLaws.{Given, Whole, whole}
+use Rattle.demands.proofs.AcceptedLaws.{Given, Whole, whole}
 
-from-count : (r : ℕ) (past : List Round) → sessionFrom r past .count ≡ length past
+from-count : (r : ℕ) (past : List (Round Move)) → sessionFrom r past .count ≡ length past
 unfolding sessionFrom
 from-count r past = refl
 
@@ -36,10 +42,10 @@ module _ (bytes : List ℕ) (b : Bytes bytes) (w : WellFormed bytes) (r : ℕ) (
   abbrev low : Every Low (policyOf bytes .disclosure)
   low = disclosure-heads bytes b w
 
-  abbrev ts : List Turn
-  ts = run (round bytes) (opened r) ms
+  abbrev ts : List (Turn Move Outcome)
+  ts = roundsOf bytes (opened r) ms
 
-  abbrev rounds : List Round
+  abbrev rounds : List (Round Move)
   rounds = acceptedOf ts
 
   all : Whole bytes b w r service [] [] ts
@@ -53,7 +59,7 @@ module _ (bytes : List ℕ) (b : Bytes bytes) (w : WellFormed bytes) (r : ℕ) (
   sessions = each-imp (Given bytes b w r service) _ (λ before t g. g .session) [] ts (all .given)
 
   -- a round that the definitions give, with such rounds before it
-  abbrev Real : List Round → Round → Type 0
+  abbrev Real : List (Round Move) → Round Move → Type 0
   Real past t = Past (Genuine pol low r) (t ∷ past)
 
   real : Each Real [] rounds
@@ -63,7 +69,7 @@ module _ (bytes : List ℕ) (b : Bytes bytes) (w : WellFormed bytes) (r : ℕ) (
   -- ---- the bound d + 1
 
   abbrev most-asked : ℕ
-  most-asked = suc (size (askable (pol .disclosure)))
+  most-asked = suc (size (askable pol))
 
   bounded : ByRound most-asked Final rounds
   bounded = record {
@@ -74,11 +80,11 @@ module _ (bytes : List ℕ) (b : Bytes bytes) (w : WellFormed bytes) (r : ℕ) (
   -- ---- the client
 
   module _ (H I S : ℕ) (c : LicensedTest pol r H I S) (e : Client H I rounds) where
-    abbrev Held : List Round → Round → Type 0
+    abbrev Held : List (Round Move) → Round Move → Type 0
     Held past t = Real past t × Past (Replies pol low r H I S c) (t ∷ past)
 
     abbrev most-lacked : ℕ
-    most-lacked = 2 + size (difference (askable (pol .disclosure)) H)
+    most-lacked = 2 + size (difference (askable pol) H)
 
     client : Each Held [] rounds
     unfolding Past
@@ -125,16 +131,8 @@ module _ (bytes : List ℕ) (b : Bytes bytes) (w : WellFormed bytes) (r : ℕ) (
     admits = λ H I S c e. admitted H I S (licensed-test bytes b w r H I S c) e;
   }
 
-linked-run : (bytes : List ℕ) (s : Session) (ms : List Move) (ts : List Turn) → Linked bytes s ms ts → ts ≡ run (round bytes) s ms
-unfolding Linked run
-linked-run bytes s [] [] l = refl
-linked-run bytes s [] (t ∷ ts) l = absurd l
-linked-run bytes s (m ∷ ms) [] l = absurd l
-linked-run bytes s (m ∷ ms) (t ∷ ts) l =
-    ap (_∷_ t) (linked-run bytes (t .gives .session) ms ts (l .2))
-    ∙ ap (λ (o : Outcome). record { takes = t .takes; gives = o } ∷ run (round bytes) (o .session) ms) (l .1)
-    ∙ ap (λ (q : Move). record { takes = q; gives = round bytes s m } ∷ run (round bytes) (round bytes s m .session) ms) (l .0)
-
-pub demand3 : (bytes : List ℕ) → Bytes bytes → WellFormed bytes → (r : ℕ) → Service r → (ms : List Move) (ts : List Turn)
-    → Linked bytes (opened r) ms ts → Demand3 bytes r (opened r) ms ts
-demand3 bytes b w r service ms ts l = subst (Demand3 bytes r (opened r) ms) (sym (linked-run bytes (opened r) ms ts l)) (demand bytes b w r service ms)
+-- the session is the one that opening gave
+pub demand3-holds : Demand3Holds
+demand3-holds bytes b w r s e ms l =
+    let (service, is) = opened-by r s e in
+    subst (λ (x : Session). Demand3 bytes r x ms (roundsOf bytes x ms)) is (demand bytes b w r service ms)

@@ -6,15 +6,20 @@ use Prim.Native.Nat.{_+_, _<_, _≤_, suc, ℕ}
 use lib.ListN.{length}
 use native.Mathlib.Decide.{ℕ-discrete}
 use native.Mathlib.Omega.{arith}
-use Rattle.session.specs.Endings.{Ending, Policy, deny, ending, grant}
-use Rattle.session.specs.Rounds.{Answer, Turn, ends, refuse}
+use Rattle.lists.specs.Each.{Each}
+use Rattle.lists.specs.Runs.{Turn}
+use Rattle.lists.proofs.EachLaws.{each-imp}
+use Rattle.rules.specs.Policy.{Policy}
+use Rattle.rounds.specs.Moves.{Move}
+use Rattle.rounds.specs.Endings.{Ending, deny, ending, grant}
+use Rattle.rounds.specs.Rounds.{Answer, Outcome, ends, refused}
+use Rattle.rounds.proofs.AnswerLaws.{clash}
 use Rattle.demands.specs.Demand3.{AllRespond, Responds}
-use Rattle.demands.specs.Lists.{ByRound, Each, Final, Over, Round, SomeRound, acceptedOf, addRound, declinedNext, shownNext}
-use Rattle.demands.proofs.EachLaws.{each-imp}
+use Rattle.demands.specs.Lists.{ByRound, Final, Over, Round, SomeRound, acceptedOf, addRound, declinedNext, shownNext}
 use Rattle.demands.proofs.ListLaws.{over-dec}
 
 -- while the session is open, every round is accepted
-all-accepted : (pol : Policy) (r : ℕ) (before ts : List Turn)
+all-accepted : (pol : Policy) (r : ℕ) (before ts : List (Turn Move Outcome))
     → Each (λ before t. Responds pol r (acceptedOf before) (t .takes) (t .gives .answer)) before ts
     → (Over (acceptedOf before) → ⊥) → (Over (acceptedOf ts) → ⊥) → length (acceptedOf ts) ≡ length ts
 unfolding Each acceptedOf
@@ -32,12 +37,9 @@ all-accepted pol r before (t ∷ ts) e o n = go (t .gives .answer) (e .0 .while-
         still : Over (addRound (t .takes) (ends x) (acceptedOf before)) → ⊥
         still (inl f) = n (inl f)
         still (inr y) = o y
-    go (refuse f) p n ih = absurd (apart p)
-      where
-        apart : refuse f ≡ ends E → ⊥
-        apart p = let z : _≡_ {A = ℕ} 0 1 = cc in omega arith
+    go (refused f) p n ih = clash (cc)
 
-last-ends : (k : ℕ) (past rs : List Round) → Each (λ past t. length (t ∷ past) ≡ k → Final (t .ended)) past rs → length past < k
+last-ends : (k : ℕ) (past rs : List (Round Move)) → Each (λ past t. length (t ∷ past) ≡ k → Final (t .ended)) past rs → length past < k
     → length past + length rs ≡ k → Over rs
 unfolding Each
 last-ends k past [] e l n = absurd (omega arith)
@@ -47,7 +49,7 @@ last-ends k past (t ∷ rs) e l n = go (ℕ-discrete (length (t ∷ past)) k) (�
     go (yes q) ih = inl (e .0 q)
     go (no q) ih = inr (ih (omega arith))
 
-pub ends-within : (pol : Policy) (r : ℕ) (ts : List Turn) → AllRespond pol r ts → (k : ℕ) (Ends : Ending → Type 0) → ((e : Ending) → Ends e → Final e)
+pub ends-within : (pol : Policy) (r : ℕ) (ts : List (Turn Move Outcome)) → AllRespond pol r ts → (k : ℕ) (Ends : Ending → Type 0) → ((e : Ending) → Ends e → Final e)
     → 0 < k → ByRound k Ends (acceptedOf ts) → k ≤ length ts → Over (acceptedOf ts)
 unfolding acceptedOf
 ends-within pol r ts d k Ends f z b l = go (over-dec (acceptedOf ts))
@@ -59,7 +61,7 @@ ends-within pol r ts d k Ends f z b l = go (over-dec (acceptedOf ts))
         (omega (arith, all-accepted pol r [] ts d (λ x. x) o, b .most))
 
 -- where none is denied, the end is a grant
-pub over-granted : (past rs : List Round) → Each (λ past t. t .ended ≢ deny) past rs → Over rs → SomeRound (λ t. t .ended ≡ grant) rs
+pub over-granted : (past rs : List (Round Move)) → Each (λ past t. t .ended ≢ deny) past rs → Over rs → SomeRound (λ t. t .ended ≡ grant) rs
 unfolding Each
 over-granted past [] e o = absurd o
 over-granted past (t ∷ rs) e (inl (inl g)) = inl g

@@ -1,15 +1,12 @@
--- The proofs of the claims.
-pub mod EachLaws
+-- The proofs of the demands and promises.
+pub mod BoundLaws
 pub mod ListLaws
 pub mod RoundLaws
 pub mod ClientLaws
 pub mod AnswerProof
-pub mod RunLaws
+pub mod AcceptedLaws
 pub mod EndLaws
-pub mod Demand3Proof
+pub mod Demand1Proof
 pub mod PromiseProof
-pub mod CallsProof
-pub mod MarkedCases
-pub mod TypeLaws
-pub mod ClaimsProof
-pub mod ReplayLaws
+pub mod Demand3Proof
+pub mod VisitProof

@@ -5,8 +5,9 @@ use mathlib.Core.List.{List, [], _∷_}
 use Prim.Native.Nat.{ℕ}
 use Rattle.atoms.specs.Sets.{Member, difference, empty, union}
 use Rattle.atoms.proofs.SetLaws.{difference-iff, intersection-iff, none-in-empty, union-cases, union-left, union-right}
-use Rattle.session.specs.Endings.{Ending, ask, deny, grant}
-use Rattle.session.proofs.AnswerLaws.{ask≢deny, ask≢grant}
+use Rattle.rounds.specs.Moves.{Move}
+use Rattle.rounds.specs.Endings.{Ending, ask, deny, grant}
+use Rattle.rounds.proofs.AnswerLaws.{clash}
 use Rattle.demands.specs.Lists.{Asks, Final, ListsMean, Over, Round, SomeNext, SomeRound, declinedBy, lastQuestion, questionIn, reply, shownBy}
 
 -- the asked set, as a set
@@ -23,10 +24,10 @@ final-dec deny = yes (inr refl)
 final-dec (ask q) = no apart
   where
     apart : Final (ask q) → ⊥
-    apart (inl e) = ask≢grant q e
-    apart (inr e) = ask≢deny q e
+    apart (inl e) = clash (cc)
+    apart (inr e) = clash (cc)
 
-pub over-dec : (rounds : List Round) → Dec (Over rounds)
+pub over-dec : (rounds : List (Round Move)) → Dec (Over rounds)
 over-dec [] = no (λ x. x)
 over-dec (t ∷ rounds) = go (final-dec (t .ended)) (over-dec rounds)
   where
@@ -41,7 +42,7 @@ over-dec (t ∷ rounds) = go (final-dec (t .ended)) (over-dec rounds)
 
 -- ---- shown and declined
 
-shown-iff : (rounds : List Round) (k : ℕ) → Member k (shownBy rounds) ↔ SomeRound (λ t. Member k (t .takes .shows)) rounds
+shown-iff : (rounds : List (Round Move)) (k : ℕ) → Member k (shownBy rounds) ↔ SomeRound (λ t. Member k (t .takes .shows)) rounds
 unfolding shownBy
 shown-iff [] k = (none-in-empty k, λ x. absurd x)
 shown-iff (t ∷ past) k = (λ m. forth (union-cases (shownBy past) p k m) (shown-iff past k .0), λ x. back x (shown-iff past k .1))
@@ -60,10 +61,10 @@ shown-iff (t ∷ past) k = (λ m. forth (union-cases (shownBy past) p k m) (show
     back (inr x) ih = union-left (shownBy past) p k (ih x)
 
 -- asked in the earlier of two rounds, and not shown in the later
-abbrev Left : ℕ → Round → Round → Type 0
+abbrev Left : ℕ → Round Move → Round Move → Type 0
 Left k earlier later = Asks (earlier .ended) k × (Member k (later .takes .shows) → ⊥)
 
-declined-iff : (rounds : List Round) (k : ℕ) → Member k (declinedBy rounds) ↔ SomeNext (Left k) rounds
+declined-iff : (rounds : List (Round Move)) (k : ℕ) → Member k (declinedBy rounds) ↔ SomeNext (Left k) rounds
 unfolding declinedBy lastQuestion
 declined-iff [] k = (none-in-empty k, λ x. absurd x)
 declined-iff (t ∷ []) k = (λ m. go (union-cases empty (difference empty p) k m), λ x. absurd x)

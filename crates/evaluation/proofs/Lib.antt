@@ -1,8 +1,2 @@
--- The laws behind the loops, and the theorems.
-pub mod HeadLaws
-pub mod ArrayLaws
-pub mod ListedLaws
-pub mod CountLaws
-pub mod LayoutLaws
-pub mod AccessLaws
-pub mod TheoremsProof
+-- The law of a rule's body.
+pub mod BodyLaws

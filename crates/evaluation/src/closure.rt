@@ -1,11 +1,11 @@
 // Rules closed over: passes over the rules at some places, the last of which adds nothing.
 ghost use mathlib.Core.Path.{_≡_};
 ghost use mathlib.Core.Bool.{_&&_, cond};
-ghost use Prim.Native.Nat.{_-_, _<_, _≤_};
+ghost use Prim.Native.Nat.{_-_, _<_};
 ghost use lib.ListN.{getD};
 ghost use Rattle.atoms.specs.Sets.{disjoint, subset, union};
 ghost use Rattle.rules.specs.LevelByLevel.{passOver, settle};
-ghost use Rattle.evaluation.specs.Arrays.{Heads, rulesIn};
+ghost use Rattle.arrays.specs.Arrays.{Span, rulesIn};
 use atoms::AtomSet;
 
 // What the rules at places `from` to `to` make of a set. "Not" is read of the set as it was before them.
@@ -17,7 +17,7 @@ pub fn close<'a>(
     to: usize,
     set: AtomSet,
 ) -> AtomSet
-    requires { ⌜ (from ≤ to) × ((to ≤ 128) × Heads (now heads)) ⌝ }
+    requires { ⌜ Span from to (now heads) ⌝ }
     ensures { λ r. ⌜ r .bits ≡ settle (rulesIn (now (heads .entry)) (now (positive .entry)) (now (negated .entry)) from (to - from)) (set .bits) ⌝ }
 {
     let mut reached = set;
@@ -40,7 +40,7 @@ fn pass<'a>(
     below: AtomSet,
     set: AtomSet,
 ) -> AtomSet
-    requires { ⌜ (from ≤ to) × ((to ≤ 128) × Heads (now heads)) ⌝ }
+    requires { ⌜ Span from to (now heads) ⌝ }
     ensures { λ r.
         ⌜ r .bits ≡ passOver (below .bits) (rulesIn (now (heads .entry)) (now (positive .entry)) (now (negated .entry)) from (to - from)) (set .bits) ⌝ }
 {
@@ -73,7 +73,8 @@ fn fire(
 ) -> AtomSet
     requires { ⌜ k < 128 ⌝ }
     ensures { λ r.
-        ⌜ r .bits ≡ cond (disjoint (negated .bits) (below .bits) && subset (positive .bits) (set .bits)) (union (set .bits) (getD (now (heads .entry)) k 0)) (set .bits) ⌝ }
+        ⌜ r .bits ≡ cond (disjoint (negated .bits) (below .bits) && subset (positive .bits) (set .bits))
+        (union (set .bits) (getD (now (heads .entry)) k 0)) (set .bits) ⌝ }
 {
     if body_holds(positive, negated, below, set) {
         let head = heads[k];

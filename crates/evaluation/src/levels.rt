@@ -1,8 +1,11 @@
 // The model from rules laid out by level.
 ghost use mathlib.Core.Path.{_≡_};
-ghost use Rattle.evaluation.specs.Arrays.{Placed, evaluated};
-ghost use Rattle.evaluation.specs.Unlocking.{grants};
+ghost use Rattle.rules.specs.Unlocking.{grants};
+ghost use Rattle.records.specs.Levels.{levelCount};
+ghost use Rattle.arrays.specs.Arrays.{Placed, evaluated};
 use crate::closure::close;
+use arrays::LEVELS;
+use arrays::Starts;
 use atoms::AtomSet;
 use atoms::VIOLATION;
 
@@ -11,16 +14,16 @@ pub fn evaluate<'a>(
     heads: &'a [u64; 128],
     positive: &'a [u64; 128],
     negated: &'a [u64; 128],
-    starts: &'a [usize; 10],
+    starts: &'a Starts,
     credentials: AtomSet,
 ) -> AtomSet
-    requires { ⌜ Placed (now heads) (now starts) ⌝ }
+    requires { ⌜ Placed levelCount (now heads) (now starts) ⌝ }
     ensures { λ r.
-        ⌜ r .bits ≡ evaluated (now (heads .entry)) (now (positive .entry)) (now (negated .entry)) (now (starts .entry)) (credentials .bits) ⌝ }
+        ⌜ r .bits ≡ evaluated levelCount (now (heads .entry)) (now (positive .entry)) (now (negated .entry)) (now (starts .entry)) (credentials .bits) ⌝ }
 {
     let mut set = credentials;
     let mut level: usize = 0;
-    while level < 9 {
+    while level < LEVELS {
         let from = starts[level];
         let to = starts[level + 1];
         set = close(heads, positive, negated, from, to, set);
@@ -34,13 +37,14 @@ pub fn unlocks<'a>(
     heads: &'a [u64; 128],
     positive: &'a [u64; 128],
     negated: &'a [u64; 128],
-    starts: &'a [usize; 10],
+    starts: &'a Starts,
     request: u8,
     credentials: AtomSet,
 ) -> bool
-    requires { ⌜ Placed (now heads) (now starts) ⌝ }
+    requires { ⌜ Placed levelCount (now heads) (now starts) ⌝ }
     ensures { λ r.
-        ⌜ r ≡ grants request (evaluated (now (heads .entry)) (now (positive .entry)) (now (negated .entry)) (now (starts .entry)) (credentials .bits)) ⌝ }
+        ⌜ r ≡ grants request
+        (evaluated levelCount (now (heads .entry)) (now (positive .entry)) (now (negated .entry)) (now (starts .entry)) (credentials .bits)) ⌝ }
 {
     let model = evaluate(heads, positive, negated, starts, credentials);
     model.contains(request) && !model.contains(VIOLATION)

@@ -7,9 +7,9 @@ use lib.Bits.{and-le-l, and-le-r, bitAnd, bitOr, or-add-and}
 use lib.Dec.{eqb}
 use native.Mathlib.Nat.{not-suc-le-zero, pow-suc}
 use native.Mathlib.Omega.{arith}
+use Rattle.validation.proofs.TestLaws.{true-eqb}
 use Rattle.atoms.specs.Sets.{Member, bit, member}
 use Rattle.atoms.proofs.SetLaws.{bit-first, bit-intersection, bit-lt, bit-next, bit-union, in-or-out, member-lowest, not-in, power-member}
-use Rattle.atoms.proofs.TestLaws.{true-eqb}
 
 -- ---- one bit
 

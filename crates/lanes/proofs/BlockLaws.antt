@@ -6,8 +6,8 @@ use lib.ListN.{getD}
 use Prim.Native.Nat.{_%_, _*_, _+_, _/_, _<_, _≤_, suc, zero, ℕ}
 use native.Mathlib.Omega.{arith}
 use Rattle.atoms.specs.Sets.{member}
-use Rattle.evaluation.specs.Arrays.{evaluated}
-use Rattle.evaluation.specs.Unlocking.{grants}
+use Rattle.rules.specs.Unlocking.{grants}
+use Rattle.arrays.specs.Arrays.{evaluated}
 use Rattle.preference.specs.Candidates.{switched}
 use Rattle.lanes.specs.Blocks.{Unlocking}
 use Rattle.lanes.specs.Candidates.{Switched, Uniform, number}
@@ -46,15 +46,16 @@ words-at q (suc (suc zero)) l = refl
 words-at q (suc (suc (suc zero))) l = refl
 words-at q (suc (suc (suc (suc t)))) l = absurd (omega arith)
 
-pub unlocking : (heads positive negated starts : List ℕ) (request base : ℕ) (members : List ℕ) (count b : ℕ) (filled candidates table : List ℕ)
+pub unlocking : (levels : ℕ) (heads positive negated starts : List ℕ) (request base : ℕ) (members : List ℕ) (count b : ℕ) (filled candidates table : List ℕ)
     (wanted breached rest r : LaneSet) → request ≤ 63 → Uniform base filled → Switched members count b filled candidates
-    → Evaluated heads positive negated starts candidates table → Loaded table request wanted → Loaded table 63 breached
-    → Complement breached rest → Both wanted rest r → Unlocking heads positive negated starts request base members count b (words r)
-unlocking heads positive negated starts request base members count b filled candidates table wanted breached rest r small fill switch evaluate want breach complement both =
+    → Evaluated levels heads positive negated starts candidates table → Loaded table request wanted → Loaded table 63 breached
+    → Complement breached rest → Both wanted rest r → Unlocking levels heads positive negated starts request base members count b (words r)
+unlocking levels heads positive negated starts request base members count b filled candidates table wanted breached rest r small fill switch evaluate want breach
+    complement both =
     record { each = each }
   where
     each : (i : ℕ) → i < 256
-        → member (i % 64) (getD (words r) (i / 64) 0) ≡ grants request (evaluated heads positive negated starts (switched base members count (256 * b + i)))
+        → member (i % 64) (getD (words r) (i / 64) 0) ≡ grants request (evaluated levels heads positive negated starts (switched base members count (256 * b + i)))
     each i l =
         let t = i / 64 in
         let k = i % 64 in
@@ -65,5 +66,5 @@ unlocking heads positive negated starts request base members count b filled cand
         ∙ granted table request wanted breached rest r small want breach complement both t k a c
         ∙ ap (grants request)
         (evaluate .each t k a c
-        ∙ ap (evaluated heads positive negated starts)
+        ∙ ap (evaluated levels heads positive negated starts)
         (switch .each base t k a c (fill t k a c) ∙ ap (switched base members count) n))

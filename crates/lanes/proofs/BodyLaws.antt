@@ -6,9 +6,9 @@ use mathlib.Core.List.{List}
 use Prim.Native.Nat.{_-_, _<_, _^_, ℕ}
 use lib.Bits.{and-zero-l, bitAnd}
 use lib.Count.{trailingZeros}
+use Rattle.validation.proofs.TestLaws.{true-eqb}
 use Rattle.atoms.specs.Sets.{bit, disjoint, member, subset}
 use Rattle.atoms.proofs.SetLaws.{bit-empty}
-use Rattle.atoms.proofs.TestLaws.{true-eqb}
 use Rattle.lanes.specs.Firing.{HavingAll, HavingAny}
 use Rattle.lanes.specs.LaneSets.{Both, EachLane, Either, Splat, word}
 use Rattle.lanes.specs.Tables.{Loaded, lane}

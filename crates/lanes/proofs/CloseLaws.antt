@@ -8,7 +8,7 @@ use Rattle.atoms.specs.Sets.{disjoint, member}
 use Rattle.rules.specs.LevelByLevel.{settle}
 use Rattle.rules.specs.Rules.{Rule}
 use Rattle.rules.proofs.LoopLaws.{pass-again, pass-idle, reached}
-use Rattle.evaluation.specs.Arrays.{rulesIn}
+use Rattle.arrays.specs.Arrays.{rulesIn}
 use Rattle.lanes.specs.LaneSets.{EachLane}
 use Rattle.lanes.specs.Levels.{LevelClosed, Reduced}
 use Rattle.lanes.specs.Passes.{Covers, Passed, Says, Stale}
@@ -24,6 +24,12 @@ module _ (heads positive negated : List ℕ) (from n : ℕ) where
     pub long : length table ≡ 768
     pub says : EachLane (λ t i. Says negated table from n t i (lane first t i))
     pub each : EachLane (λ t i. reached (lane first t i) rules (lane table t i) ≡ reached (lane first t i) rules (lane first t i))
+
+  -- and which rules the next pass may pass over
+  pub record Progressing (to : ℕ) (first table : List ℕ) (progress : Progress) (initial : ℕ) : Type 0 where
+    pub closing : Closing first table
+    pub covers : Covers (progress .possible) table
+    pub stale : Stale heads positive from to (progress .added) initial table
 
   pub closing-next : (first table after : List ℕ) (progress : Progress) → Closing first table
       → Passed heads positive from n table after progress → Closing first after

@@ -9,7 +9,7 @@ use lib.Count.{trailingZeros}
 use native.Mathlib.Omega.{arith}
 use Rattle.atoms.specs.Sets.{Member, bit, member, subset, union}
 use Rattle.atoms.proofs.SetLaws.{bit-empty, bit-intersection, bit-lt, bit-one, bit-union, inhabited, intersection-iff, member-low}
-use Rattle.evaluation.specs.Arrays.{OneAtom}
+use Rattle.arrays.specs.Arrays.{OneAtom}
 use Rattle.lanes.specs.Firing.{Fired, FiredIn, HavingAll}
 use Rattle.lanes.specs.LaneSets.{Both, Complement, Either, Empty, word}
 use Rattle.lanes.specs.Tables.{Added, Loaded, Same, Stored, cell, lane}

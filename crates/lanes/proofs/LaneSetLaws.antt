@@ -6,7 +6,7 @@ use Prim.Native.Nat.{_-_, _<_, _^_, suc, zero, ℕ}
 use lib.Bits.{bitAnd, bitOr, bitXor}
 use lib.Dec.{eqb}
 use native.Mathlib.Omega.{arith}
-use Rattle.atoms.proofs.TestLaws.{eqb-true, true-eqb}
+use Rattle.validation.proofs.TestLaws.{eqb-true, true-eqb}
 use native.Mathlib.Decide.{ℕ-discrete}
 use Rattle.lanes.specs.LaneSets.{Both, Complement, Either, Empty, JustOne, Splat, word}
 use Rattle.lanes.specs.declared.lane_set.LaneSet.{LaneSet}

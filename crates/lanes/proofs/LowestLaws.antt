@@ -9,11 +9,12 @@ use lib.Pow.{pow-mono}
 use native.Mathlib.Decide.{ℕ-discrete}
 use native.Mathlib.Nat.{pow-suc}
 use native.Mathlib.Omega.{arith}
+use Rattle.validation.proofs.DecideLaws.{decides-and, decides-eq, decides-not, same-decision}
+use Rattle.validation.specs.Statements.{Decides}
 use Rattle.atoms.specs.Sets.{Member, Subset, bit, disjoint, member, subset, union}
 use Rattle.atoms.proofs.SetLaws.{bit-first, bit-lt, bit-next, bit-one, bit-union, disjoint-true, ext, member-low, power-member, single-is, subset-true, true-disjoint, true-subset}
-use Rattle.policy.proofs.DecideLaws.{Decides, decides-and, decides-eq, decides-not, same-decision}
-use Rattle.evaluation.specs.Arrays.{OneAtom, atomOf}
-use Rattle.evaluation.proofs.HeadLaws.{one-low, one-some}
+use Rattle.arrays.specs.Arrays.{OneAtom, atomOf}
+use Rattle.arrays.proofs.HeadLaws.{one-low, one-some}
 use Rattle.lanes.proofs.BitLaws.{bit-other}
 
 -- the lowest atom of m is t, and r is m without it

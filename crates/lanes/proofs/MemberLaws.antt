@@ -8,9 +8,9 @@ use lib.Pow.{shr-shr}
 use native.Mathlib.Decide.{ℕ-discrete}
 use native.Mathlib.Nat.{not-suc-le-zero}
 use native.Mathlib.Omega.{arith}
+use Rattle.validation.proofs.TestLaws.{and-true, eqb-true}
 use Rattle.atoms.specs.Sets.{bit}
 use Rattle.atoms.proofs.SetLaws.{bit-empty, bit-lt}
-use Rattle.atoms.proofs.TestLaws.{and-true, eqb-true}
 use Rattle.lanes.specs.Candidates.{Pattern, Takers, number}
 use Rattle.lanes.specs.LaneSets.{EachLane, Splat, word}
 use Rattle.lanes.specs.declared.lane_set.LaneSet.{LaneSet}

@@ -11,9 +11,9 @@ use native.Mathlib.Omega.{arith}
 use Rattle.atoms.specs.Sets.{Member, Subset, disjoint, member, subset, union}
 use Rattle.atoms.proofs.SetLaws.{inhabited, none-in-empty, none-is-empty, not-in, union-least, union-left, union-right}
 use Rattle.rules.specs.LevelByLevel.{passOver}
-use Rattle.evaluation.specs.Arrays.{OneAtom, rulesIn}
-use Rattle.evaluation.proofs.ArrayLaws.{pass-done-at, pass-next-at}
-use Rattle.evaluation.proofs.HeadLaws.{one-some}
+use Rattle.arrays.specs.Arrays.{OneAtom, rulesIn}
+use Rattle.arrays.proofs.ArrayLaws.{pass-done-at, pass-next-at}
+use Rattle.arrays.proofs.HeadLaws.{one-some}
 use Rattle.lanes.specs.LaneSets.{EachLane}
 use Rattle.lanes.specs.Passes.{Covers, Moved, Passed, Satisfied, Says, Stale, Stepped}
 use Rattle.lanes.specs.Tables.{Added, Grows, Kept, Same, cell, lane}
@@ -27,6 +27,7 @@ module _ (heads positive : List ℕ) (from to delta initial : ℕ) where
   Rests table j = Satisfied j (getD heads j 0) (getD positive j 0) table
 
   pub record Passing (before table : List ℕ) (progress : Progress) (k : ℕ) : Type 0 where
+    pub low : from ≤ k
     pub long : length table ≡ 768
     pub kept : Kept before table
     pub covers : Covers (progress .possible) table
@@ -43,6 +44,7 @@ module _ (heads positive : List ℕ) (from to delta initial : ℕ) where
   pub passing-first : (possible : ℕ) (table : List ℕ) → length table ≡ 768 → Covers possible table → Stale heads positive from to delta initial table
       → Passing table table (record { possible = possible; added = 0 }) from
   passing-first possible table len c s = record {
+    low = omega arith;
     long = len;
     kept = λ t k l. refl;
     covers = c;
@@ -54,9 +56,10 @@ module _ (heads positive : List ℕ) (from to delta initial : ℕ) where
     each = λ negated B t i l n says. refl;
   }
 
-  pub passing-next : (before table after : List ℕ) (s r : Progress) (k : ℕ) → from ≤ k → k < to → OneAtom (getD heads k 0)
+  pub passing-next : (before table after : List ℕ) (s r : Progress) (k : ℕ) → k < to → OneAtom (getD heads k 0)
       → Passing before table s k → Stepped k (getD heads k 0) (getD positive k 0) s r table after → Passing before after r (k + 1)
-  passing-next before table after s r k low less one p f = record {
+  passing-next before table after s r k less one p f = record {
+    low = omega (arith, p .low);
     long = f .long;
     kept = λ t j l. f .kept t j l ∙ p .kept t j l;
     covers = f .covers;
@@ -70,7 +73,7 @@ module _ (heads positive : List ℕ) (from to delta initial : ℕ) where
     each = λ negated B t i l n says.
         let S = lane table t i in
         let test : member i (cell table t (64 + k)) ≡ disjoint (getD negated k 0) B
-        = ap (λ (x : ℕ). member i x) (p .kept t k l) ∙ says k low (omega arith) in
+        = ap (λ (x : ℕ). member i x) (p .kept t k l) ∙ says k (p .low) (omega arith) in
         pass-next-at heads positive negated k to less one B S (lane after t i) _
         (f .each t i l n
         ∙ ap (λ (b : Bool). cond (b && subset (getD positive k 0) S) (union S (getD heads k 0)) S) test)

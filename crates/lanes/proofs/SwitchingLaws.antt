@@ -3,7 +3,7 @@ use mathlib.Core.Path.{_∙_, _≡_, ap, refl, subst, sym}
 use mathlib.Core.Logic.{_≢_, inl, inr}
 use mathlib.Core.Bool.{cond}
 use mathlib.Core.List.{List}
-use Prim.Native.Nat.{_+_, _-_, _<_, ℕ}
+use Prim.Native.Nat.{_+_, _-_, _<_, _≤_, ℕ}
 use lib.Bits.{bitAnd, bitOr, bitXor}
 use lib.Count.{trailingZeros}
 use lib.ListN.{getD, length}
@@ -12,7 +12,7 @@ use native.Mathlib.Numerals.{add-one}
 use native.Mathlib.Omega.{arith}
 use Rattle.atoms.specs.Sets.{Member, bit, member}
 use Rattle.atoms.proofs.SetLaws.{bit-empty, bit-one, intersection-iff, union-left, union-right}
-use Rattle.evaluation.specs.Arrays.{OneAtom}
+use Rattle.arrays.specs.Arrays.{OneAtom}
 use Rattle.preference.specs.Candidates.{switched}
 use Rattle.preference.proofs.XorLaws.{bit-xor-in, bit-xor-out}
 use Rattle.lanes.specs.Candidates.{Noted, Switched, Takers, number}
@@ -23,6 +23,12 @@ use Rattle.lanes.specs.declared.lane_set.LaneSet.{LaneSet}
 use Rattle.lanes.proofs.BitLaws.{InOrOut, bit-other, bit-others, tested}
 use Rattle.lanes.proofs.LaneLaws.{lane-bit, lane-low, stored-lane}
 use Rattle.lanes.proofs.LowestLaws.{one-fits, one-small, one-trailing}
+
+-- the members before j are switched; no lane has an atom outside `possible`
+pub record Switching (members : List ℕ) (count b : ℕ) (before table : List ℕ) (possible j : ℕ) : Type 0 where
+  pub low : j ≤ count
+  pub done : Switched members j b before table
+  pub covers : Covers possible table
 
 pub switching-first : (members : List ℕ) (b : ℕ) (table : List ℕ) → length table ≡ 768 → Switched members 0 b table table
 unfolding switched

@@ -2,9 +2,10 @@
 use mathlib.Core.Path.{_≡_}
 use mathlib.Core.Bool.{Bool, _&&_, cond, false, not, true}
 use mathlib.Core.List.{List}
-use Prim.Native.Nat.{_+_, ℕ}
+use Prim.Native.Nat.{_+_, _<_, ℕ}
 use lib.ListN.{length}
 use Rattle.atoms.specs.Sets.{disjoint, member, subset, union}
+use Rattle.arrays.specs.Arrays.{OneAtom}
 use Rattle.lanes.specs.LaneSets.{EachLane, word}
 use Rattle.lanes.specs.Tables.{Added, Kept, Same, cell, lane}
 use Rattle.lanes.specs.declared.lane_set.LaneSet.{LaneSet}
@@ -16,6 +17,12 @@ pub record HavingAll (table : List ℕ) (atoms : ℕ) (among r : LaneSet) : Type
 -- r has the lanes that have any of the atoms
 pub record HavingAny (table : List ℕ) (atoms : ℕ) (r : LaneSet) : Type 0 where
   pub each : EachLane (λ t i. not (member i (word r t)) ≡ disjoint atoms (lane table t i))
+
+-- what firing rule k needs: one of the 128 places, a head that is the set of one atom, and a whole table
+pub record Fireable (k head : ℕ) (table : List ℕ) : Type 0 where
+  pub place : k < 128
+  pub single : OneAtom head
+  pub long : length table ≡ 768
 
 -- rule k, whose head is the set of one atom, adds it in each lane whose reduct has the rule and whose set has its body
 abbrev pub FiredIn : ℕ → ℕ → ℕ → List ℕ → List ℕ → Type 0

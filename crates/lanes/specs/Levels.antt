@@ -5,10 +5,16 @@ use Prim.Native.Nat.{_+_, _<_, _≤_, ℕ}
 use lib.ListN.{getD, length}
 use Rattle.atoms.specs.Sets.{disjoint, member}
 use Rattle.rules.specs.LevelByLevel.{settle}
-use Rattle.evaluation.specs.Arrays.{evaluated, rulesIn}
+use Rattle.arrays.specs.Arrays.{evaluated, rulesIn}
 use Rattle.lanes.specs.LaneSets.{EachLane}
 use Rattle.lanes.specs.Passes.{Covers}
 use Rattle.lanes.specs.Tables.{Same, cell, lane}
+
+-- what reducing the rules at places `from` to `to` needs: some of the 128 places, and a whole table
+pub record Reducible (from to : ℕ) (table : List ℕ) : Type 0 where
+  pub ordered : from ≤ to
+  pub fits : to ≤ 128
+  pub long : length table ≡ 768
 
 -- row 64 + k has the lanes whose sets have nothing that rule k negates
 pub record Reduced (negated : List ℕ) (from to : ℕ) (before after : List ℕ) : Type 0 where
@@ -23,6 +29,6 @@ pub record LevelClosed (heads positive negated : List ℕ) (from n : ℕ) (befor
   pub each : EachLane (λ t i. lane after t i ≡ settle (rulesIn heads positive negated from n) (lane before t i))
 
 -- all levels
-pub record Evaluated (heads positive negated starts before after : List ℕ) : Type 0 where
+pub record Evaluated (levels : ℕ) (heads positive negated starts before after : List ℕ) : Type 0 where
   pub long : length after ≡ 768
-  pub each : EachLane (λ t i. lane after t i ≡ evaluated heads positive negated starts (lane before t i))
+  pub each : EachLane (λ t i. lane after t i ≡ evaluated levels heads positive negated starts (lane before t i))

@@ -8,7 +8,7 @@ use lib.Bits.{bitAnd}
 use lib.ListN.{getD, length}
 use Rattle.atoms.specs.Sets.{Subset, disjoint, member, subset}
 use Rattle.rules.specs.LevelByLevel.{passOver}
-use Rattle.evaluation.specs.Arrays.{rulesIn}
+use Rattle.arrays.specs.Arrays.{rulesIn}
 use Rattle.lanes.specs.Firing.{FiredIn}
 use Rattle.lanes.specs.LaneSets.{EachLane}
 use Rattle.lanes.specs.Tables.{Added, Grows, Kept, Same, cell, lane}

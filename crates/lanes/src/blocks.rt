@@ -1,13 +1,12 @@
 // A block of 256 candidates: which of them unlock a request.
-ghost use mathlib.Core.Path.{_≡_};
-ghost use Prim.Native.Nat.{_≤_};
-ghost use Rattle.evaluation.specs.Arrays.{Placed};
-ghost use Rattle.preference.specs.Candidates.{Members};
+ghost use Rattle.records.specs.Levels.{levelCount};
+ghost use Rattle.preference.specs.InArrays.{Searchable};
 ghost use Rattle.lanes.specs.Blocks.{Unlocking};
 use crate::candidates::fill;
 use crate::candidates::switch;
 use crate::levels::evaluate;
 use crate::table::load;
+use arrays::Starts;
 use atoms::VIOLATION;
 
 // Candidate 256 b + i is bit i % 64 of word i / 64.
@@ -15,16 +14,17 @@ pub fn block<'a>(
     heads: &'a [u64; 128],
     positive: &'a [u64; 128],
     negated: &'a [u64; 128],
-    starts: &'a [usize; 10],
+    starts: &'a Starts,
     request: u8,
     base: u16,
     members: &'a [u16; 16],
     count: usize,
     b: usize,
 ) -> [u64; 4]
-    requires { ⌜ Placed (now heads) (now starts) × ((request ≤ 63) × Members (now members) count) ⌝ }
+    requires { ⌜ Searchable levelCount (now heads) (now starts) request (now members) count ⌝ }
     ensures { λ r.
-        ⌜ Unlocking (now (heads .entry)) (now (positive .entry)) (now (negated .entry)) (now (starts .entry)) request base (now (members .entry)) count b r ⌝ }
+        ⌜ Unlocking levelCount (now (heads .entry)) (now (positive .entry)) (now (negated .entry)) (now (starts .entry)) request base (now (members .entry))
+        count b r ⌝ }
 {
     let mut table = [0u64; 768];
     fill(&mut table, base);

@@ -1,14 +1,17 @@
 // One level after another, for all lanes at once.
 ghost use mathlib.Core.Path.{_≡_};
-ghost use Prim.Native.Nat.{_-_, _≤_};
+ghost use Prim.Native.Nat.{_-_};
 ghost use lib.ListN.{length};
-ghost use Rattle.evaluation.specs.Arrays.{Heads, Placed};
-ghost use Rattle.lanes.specs.Levels.{Evaluated, LevelClosed, Reduced};
+ghost use Rattle.records.specs.Levels.{levelCount};
+ghost use Rattle.arrays.specs.Arrays.{Placed, Span};
+ghost use Rattle.lanes.specs.Levels.{Evaluated, LevelClosed, Reduced, Reducible};
 ghost use Rattle.lanes.specs.Passes.{Covers};
 use crate::bodies::having_any;
 use crate::passes::Progress;
 use crate::passes::pass;
 use crate::table::store;
+use arrays::LEVELS;
+use arrays::Starts;
 
 // Level by level: each is finished before the next one begins. No lane has an atom outside `possible`.
 pub fn evaluate<'a>(
@@ -16,16 +19,17 @@ pub fn evaluate<'a>(
     heads: &'a [u64; 128],
     positive: &'a [u64; 128],
     negated: &'a [u64; 128],
-    starts: &'a [usize; 10],
+    starts: &'a Starts,
     possible: u64,
 )
-    requires { ⌜ Placed (now heads) (now starts) × (length (now table) ≡ 768) ⌝ ∗ ⌜ Covers possible (now table) ⌝ }
+    requires { ⌜ Placed levelCount (now heads) (now starts) × (length (now table) ≡ 768) ⌝ ∗ ⌜ Covers possible (now table) ⌝ }
     ensures { λ _.
-        ⌜ Evaluated (now (heads .entry)) (now (positive .entry)) (now (negated .entry)) (now (starts .entry)) (now (table .entry)) (now (table .exit)) ⌝ }
+        ⌜ Evaluated levelCount (now (heads .entry)) (now (positive .entry)) (now (negated .entry)) (now (starts .entry))
+        (now (table .entry)) (now (table .exit)) ⌝ }
 {
     let mut reached = possible;
     let mut level: usize = 0;
-    while level < 9 {
+    while level < LEVELS {
         let from = starts[level];
         let to = starts[level + 1];
         reached = close(table, heads, positive, negated, from, to, reached);
@@ -35,7 +39,7 @@ pub fn evaluate<'a>(
 
 // Row 64 + k becomes the lanes whose reduct has rule k: nothing that it negates holds there.
 fn reduce(table: &mut [u64; 768], negated: &[u64; 128], from: usize, to: usize)
-    requires { ⌜ (from ≤ to) × ((to ≤ 128) × (length (now table) ≡ 768)) ⌝ }
+    requires { ⌜ Reducible from to (now table) ⌝ }
     ensures { λ _. ⌜ Reduced (now (negated .entry)) from to (now (table .entry)) (now (table .exit)) ⌝ }
 {
     let mut k = from;
@@ -57,7 +61,7 @@ fn close<'a>(
     to: usize,
     possible: u64,
 ) -> u64
-    requires { ⌜ (from ≤ to) × ((to ≤ 128) × (Heads (now heads) × (length (now table) ≡ 768))) ⌝ ∗ ⌜ Covers possible (now table) ⌝ }
+    requires { ⌜ Span from to (now heads) × (length (now table) ≡ 768) ⌝ ∗ ⌜ Covers possible (now table) ⌝ }
     ensures { λ r.
         ⌜ LevelClosed (now (heads .entry)) (now (positive .entry)) (now (negated .entry)) from (to - from) (now (table .entry)) (now (table .exit)) r ⌝ }
 {

@@ -1,10 +1,10 @@
 // One pass over the rules of a level, for all lanes at once.
 ghost use mathlib.Core.Path.{_≡_};
-ghost use Prim.Native.Nat.{_-_, _<_, _≤_};
+ghost use Prim.Native.Nat.{_-_};
 ghost use lib.Bits.{bitAnd, bitOr};
 ghost use lib.ListN.{length};
-ghost use Rattle.evaluation.specs.Arrays.{Heads, OneAtom};
-ghost use Rattle.lanes.specs.Firing.{Fired};
+ghost use Rattle.arrays.specs.Arrays.{Span};
+ghost use Rattle.lanes.specs.Firing.{Fireable, Fired};
 ghost use Rattle.lanes.specs.Passes.{Covers, Passed, Satisfied, Stale, Stepped};
 use crate::bodies::having_all;
 use crate::table::load;
@@ -27,7 +27,7 @@ pub fn pass<'a>(
     delta: u64,
     initial: u64,
 ) -> Progress
-    requires { ⌜ (from ≤ to) × ((to ≤ 128) × (Heads (now heads) × (length (now table) ≡ 768))) ⌝
+    requires { ⌜ Span from to (now heads) × (length (now table) ≡ 768) ⌝
         ∗ ⌜ Covers possible (now table) × Stale (now heads) (now positive) from to delta initial (now table) ⌝ }
     ensures { λ r. ⌜ Passed (now (heads .entry)) (now (positive .entry)) from (to - from) (now (table .entry)) (now (table .exit)) r ⌝ }
 {
@@ -53,7 +53,7 @@ fn step(
     initial: u64,
     progress: Progress,
 ) -> Progress
-    requires { ⌜ (k < 128) × (OneAtom head × (length (now table) ≡ 768)) ⌝
+    requires { ⌜ Fireable k head (now table) ⌝
         ∗ ⌜ Covers (progress .possible) (now table)
         × (initial ≡ 0 → bitAnd positive (bitOr delta (progress .added)) ≡ 0 → Satisfied k head positive (now table)) ⌝ }
     ensures { λ r. ⌜ Stepped k head positive progress r (now (table .entry)) (now (table .exit)) ⌝ }
@@ -77,7 +77,7 @@ fn step(
 
 // The rule at place k adds its head in each lane where its body holds: whether it is new in any.
 fn fire(table: &mut [u64; 768], k: usize, head: u64, positive: u64) -> bool
-    requires { ⌜ (k < 128) × (OneAtom head × (length (now table) ≡ 768)) ⌝ }
+    requires { ⌜ Fireable k head (now table) ⌝ }
     ensures { λ r. ⌜ Fired k head positive (now (table .entry)) (now (table .exit)) r ⌝ }
 {
     let body = having_all(table, positive, load(table, 64 + k));

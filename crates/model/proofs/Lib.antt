@@ -1,6 +1,4 @@
--- The laws of disclosure and of the answers, and the theorems.
-pub mod DisclosureLaws
-pub mod AcceptedLaws
+-- The laws of the model's answer, and the theorems.
 pub mod AnswerLaws
 pub mod TypeLaws
 pub mod TheoremsProof

@@ -1,5 +1,4 @@
--- The model and the disclosable set of a policy, in the order of reading.
-pub mod Disclosure
+-- The model of a policy, in the order of reading.
 pub mod Answers
 pub mod Types
 pub mod Theorems

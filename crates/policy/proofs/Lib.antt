@@ -1,11 +1,6 @@
--- The laws of tests, records, levels and the written form.
-pub mod DecideLaws
+-- What the test's steps and types come to.
 pub mod LevelSetLaws
 pub mod KindLaws
-pub mod RecordLaws
-pub mod RefusalLaws
-pub mod NumberLaws
 pub mod LoopLaws
-pub mod PolicyLaws
 pub mod TypeLaws
 pub mod TheoremsProof

@@ -1,32 +1,48 @@
--- What the loop over the records needs: one record at a time, and what is left. Assumes nothing.
+-- What the loop over the records needs: one record at a time, what is left, and the policy's test from its parts. Assumes nothing.
 use mathlib.Core.Path.{_∙_, _≡_, ap}
-use mathlib.Core.List.{List}
-use mathlib.Core.Option.{none, orElse, some}
-use Prim.Native.Nat.{_+_, _-_, _<_, _≤_, suc, ℕ}
+use mathlib.Core.Bool.{cond}
+use mathlib.Core.List.{List, append-nil}
+use mathlib.Core.Option.{Option, none, orElse, some}
+use Prim.Native.Nat.{_%_, _+_, _-_, _<_, _≤_, suc, ℕ}
+use lib.Dec.{eqb, leb}
+use lib.ListN.{length}
 use native.Mathlib.Numerals.{add-one}
 use native.Mathlib.Omega.{arith}
-use Rattle.records.specs.Records.{recordAt}
-use Rattle.policy.specs.PolicyTest.{recordRefusal, recordsRefusal}
-use Rattle.policy.specs.WrittenForm.{Refusal}
+use Rattle.validation.specs.Tests.{firstFailed}
+use Rattle.validation.proofs.FirstLaws.{first-append}
+use Rattle.records.specs.Records.{wholeRecords}
+use Rattle.form.specs.PolicyTest.{policyRefusal, policyTests, testsAt, testsFrom}
+use Rattle.form.specs.WrittenForm.{Refusal, at}
 
 module _ (bytes : List ℕ) (k n : ℕ) where
-  records-next : k < n → recordsRefusal bytes k (n - k) ≡ orElse (recordRefusal (recordAt bytes k) k) (recordsRefusal bytes (k + 1) (n - (k + 1)))
-  unfolding recordsRefusal
+  records-next : k < n → firstFailed (testsFrom bytes k (n - k))
+      ≡ orElse (firstFailed (testsAt bytes k)) (firstFailed (testsFrom bytes (k + 1) (n - (k + 1))))
+  unfolding testsFrom
   records-next l =
       let e : n - k ≡ suc (n - (k + 1)) = omega arith in
-      ap (recordsRefusal bytes k) e ∙ rw (add-one k)
+      ap (λ (m : ℕ). firstFailed (testsFrom bytes k m)) e
+      ∙ first-append (testsAt bytes k) (testsFrom bytes (suc k) (n - (k + 1)))
+      ∙ rw (add-one k)
 
-  -- the record is kept: go on
-  pub records-kept : k < n → recordRefusal (recordAt bytes k) k ≡ none → recordsRefusal bytes k (n - k) ≡ recordsRefusal bytes (k + 1) (n - (k + 1))
+  -- the record is accepted: go on
+  pub records-accepted : k < n → firstFailed (testsAt bytes k) ≡ none
+      → firstFailed (testsFrom bytes k (n - k)) ≡ firstFailed (testsFrom bytes (k + 1) (n - (k + 1)))
   unfolding orElse
-  records-kept l e = records-next l ∙ rw e
+  records-accepted l e = records-next l ∙ ap (λ (o : Option Refusal). orElse o (firstFailed (testsFrom bytes (k + 1) (n - (k + 1))))) e
 
   -- the record is refused: stop
-  pub records-refused : k < n → (f : Refusal) → recordRefusal (recordAt bytes k) k ≡ some f → recordsRefusal bytes k (n - k) ≡ some f
+  pub records-refused : k < n → (f : Refusal) → firstFailed (testsAt bytes k) ≡ some f → firstFailed (testsFrom bytes k (n - k)) ≡ some f
   unfolding orElse
-  records-refused l f e = records-next l ∙ rw e
+  records-refused l f e = records-next l ∙ ap (λ (o : Option Refusal). orElse o (firstFailed (testsFrom bytes (k + 1) (n - (k + 1))))) e
 
   -- no record is left
-  pub records-done : n ≤ k → recordsRefusal bytes k (n - k) ≡ none
-  unfolding recordsRefusal
-  records-done l = let e : n - k ≡ 0 = omega arith in ap (recordsRefusal bytes k) e
+  pub records-done : n ≤ k → firstFailed (testsFrom bytes k (n - k)) ≡ none
+  unfolding testsFrom firstFailed
+  records-done l = let e : n - k ≡ 0 = omega arith in ap (λ (m : ℕ). firstFailed (testsFrom bytes k m)) e
+
+-- the lengths, and then the records
+pub refusal-parts : (bytes : List ℕ) → policyRefusal bytes
+    ≡ cond (leb (length bytes) 2304) (cond (eqb (length bytes % 18) 0) (firstFailed (testsFrom bytes 0 (wholeRecords bytes))) (some (at 2 (wholeRecords bytes))))
+    (some (at 1 128))
+unfolding policyRefusal policyTests firstFailed
+refusal-parts bytes = rw (append-nil (testsFrom bytes 0 (wholeRecords bytes)))

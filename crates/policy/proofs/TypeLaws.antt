@@ -4,8 +4,8 @@ use mathlib.Core.Bool.{cond}
 use mathlib.Core.Option.{Option, none, some}
 use lib.Dec.{eqb}
 use Rattle.atoms.proofs.MapLaws.{one-to-one}
+use Rattle.form.specs.WrittenForm as W
 use Rattle.policy.specs.Types.{checkedOf, refusalOf}
-use Rattle.policy.specs.WrittenForm as W
 use Rattle.policy.specs.declared.Checked.{Checked}
 use Rattle.policy.specs.declared.Checked.the-variants.{Accepted, Refused}
 use Rattle.policy.specs.declared.refusal.Refusal.{Refusal}

@@ -1,5 +1,3 @@
--- Policies, in the order of reading.
-pub mod WrittenForm
-pub mod PolicyTest
+-- What the answers of the policy's test mean, in the order of reading.
 pub mod Types
 pub mod Theorems

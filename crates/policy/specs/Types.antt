@@ -1,6 +1,6 @@
 -- What the program's types mean: document 01's number and values for each case. Assumes nothing.
 use mathlib.Core.Option.{Option, none, some}
-use Rattle.policy.specs.WrittenForm as W
+use Rattle.form.specs.WrittenForm as W
 use Rattle.policy.specs.declared.Checked.{Checked}
 use Rattle.policy.specs.declared.Checked.the-variants.{Accepted, Refused}
 use Rattle.policy.specs.declared.refusal.Refusal.{Refusal}

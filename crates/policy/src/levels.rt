@@ -6,7 +6,7 @@ ghost use Rattle.atoms.specs.Atoms.{violation};
 ghost use Rattle.atoms.specs.Sets.{Member};
 ghost use Rattle.records.specs.Levels.{level};
 ghost use Rattle.records.specs.Types.{recordOf};
-ghost use Rattle.policy.specs.PolicyTest.{accessLevels};
+ghost use Rattle.form.specs.PolicyTest.{accessLevels};
 use atoms::AtomSet;
 use records::Record;
 use records::level::level;

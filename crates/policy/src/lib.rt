@@ -2,17 +2,17 @@
 ghost use mathlib.Core.Path.{_≡_};
 ghost use Prim.Native.Nat.{_*_, _+_, _<_, _≤_};
 ghost use lib.ListN.{length};
-ghost use Rattle.records.specs.Records.{recordAt};
-ghost use Rattle.policy.specs.PolicyTest.{policyRefusal, recordRefusal, recordsRefusal};
-ghost use Rattle.policy.specs.Theorems.{Tested};
+ghost use Rattle.validation.specs.Tests.{firstFailed};
+ghost use Rattle.form.specs.PolicyTest.{policyRefusal, testsAt, testsFrom};
+ghost use Rattle.form.specs.Theorems.{Tested};
 ghost use Rattle.policy.specs.Types.{checkedOf};
-use form::check_record;
 use records::record_at;
 use refusal::Refusal;
+use tests::check_record;
 
-mod form;
 mod levels;
 pub mod refusal;
+mod tests;
 
 // 128 records of 18 bytes.
 const MOST_BYTES: usize = 2304;
@@ -44,7 +44,7 @@ pub fn check(policy: &[u8]) -> Checked
 // The first refusal of the first `records` records, which are there.
 fn check_records(policy: &[u8], records: usize) -> Checked
     requires { ⌜ (18 * records ≤ length (now policy)) × (records ≤ 128) ⌝ }
-    ensures { λ r. ⌜ checkedOf r ≡ recordsRefusal (now (policy .entry)) 0 records ⌝ }
+    ensures { λ r. ⌜ checkedOf r ≡ firstFailed (testsFrom (now (policy .entry)) 0 records) ⌝ }
 {
     let mut k: usize = 0;
     while k < records {
@@ -60,7 +60,7 @@ fn check_records(policy: &[u8], records: usize) -> Checked
 // The test of record k, which is there.
 fn check_at(policy: &[u8], k: usize) -> Checked
     requires { ⌜ (18 * k + 18 ≤ length (now policy)) × (k < 128) ⌝ }
-    ensures { λ r. ⌜ checkedOf r ≡ recordRefusal (recordAt (now (policy .entry)) k) k ⌝ }
+    ensures { λ r. ⌜ checkedOf r ≡ firstFailed (testsAt (now (policy .entry)) k) ⌝ }
 {
     let parsed = record_at(policy, k);
     let number = k as u8;

@@ -1,7 +1,7 @@
 // Refusals of a policy, and document 01's numbers for them.
 ghost use mathlib.Core.Path.{_≡_};
+ghost use Rattle.form.specs.WrittenForm.{recordNumber, refusalNumber};
 ghost use Rattle.policy.specs.Types.{refusalOf};
-ghost use Rattle.policy.specs.WrittenForm.{recordNumber, refusalNumber};
 
 // Why a policy is refused: each case but the first with the record's number, counted from 0.
 pub enum Refusal {

@@ -9,12 +9,13 @@ use native.Mathlib.Decide.{decLt}
 use native.Mathlib.Omega.{arith}
 use Rattle.atoms.specs.Sets.{Subset, size}
 use Rattle.atoms.proofs.SizeLaws.{size-credentials}
+use Rattle.rules.specs.Policy.{Policy}
 use Rattle.preference.specs.Preference.{lexBefore, preferred}
-use Rattle.preference.specs.Question.{Question, candidates, keys}
+use Rattle.preference.specs.Question.{Question, candidates, keys, weightIn}
 use Rattle.preference.specs.Order.{Before, First, costOf, firstOf}
-use Rattle.preference.specs.Subsets.{subsetOf, total, weightsOf}
+use Rattle.preference.specs.Subsets.{costIn, subsetOf, total, weightsOf}
 use Rattle.preference.specs.OrderTheorems.{Lighter, LightestOf, equalWeights, questionAt, questionFor}
-use Rattle.preference.proofs.CostLaws.{weight-equal}
+use Rattle.preference.proofs.CostLaws.{total-ones, weight-equal}
 use Rattle.preference.proofs.NumberLaws.{in-all, in-inside, in-lt, in-rising, in-size, in-weights, ones-size}
 use Rattle.preference.proofs.OrderLaws.{Compared, alike, compare, first, first-none, first-some, second}
 use Rattle.preference.proofs.QuestionLaws.{none-preferred, not-before, one-preferred}
@@ -88,15 +89,12 @@ module _ (D : ℕ) (l : D < 2 ^ 16) where
 
   -- ---- equal weights
 
-  module _ (test : Question → Bool) where
-    equal : (n : ℕ) → n < 2 ^ size D → costOf equalWeights n ≡ 18 * size (subsetOf D n)
-    unfolding costOf
-    equal n k = omega (arith, weight-equal 16 n, ones-size n (omega (arith, top)), sized n k)
-
+  -- a cost that counts members alone
+  module _ (pol : Policy) (cost : ℕ → ℕ) (counts : (n : ℕ) → n < 2 ^ size D → cost n ≡ 18 * size (subsetOf D n)) (test : Question → Bool) where
     -- x, the set of candidate m, does not come before candidate n
-    after : (n : ℕ) → First (costOf equalWeights) (λ n. test (questionAt D n)) (2 ^ size D) n
-        → (x : Question) → Subset (x .asks) D → test x ≡ true → lexBefore (keys x) (keys (questionAt D n)) ≡ false
-    after n f x i t = not-before x (questionAt D n) (λ h. none (inl (fewer h))) (λ e h. none (inr (as-many e, smaller h)))
+    after : (n : ℕ) → First cost (λ n. test (questionAt D n)) (2 ^ size D) n
+        → (x : Question) → Subset (x .asks) D → test x ≡ true → lexBefore (keys pol x) (keys pol (questionAt D n)) ≡ false
+    after n f x i t = not-before pol x (questionAt D n) (λ h. none (inl (fewer h))) (λ e h. none (inr (as-many e, smaller h)))
       where
         o : (m : ℕ) × (m < 2 ^ size D) × (subsetOf D m ≡ x .asks)
         o = all (x .asks) i
@@ -104,26 +102,47 @@ module _ (D : ℕ) (l : D < 2 ^ 16) where
         is : questionAt D (o .0) ≡ x
         is = ap (λ (y : ℕ). record { asks = y }) (o .2)
 
-        none : Before (costOf equalWeights) (o .0) n → ⊥
+        none : Before cost (o .0) n → ⊥
         none b = true≢false (sym t ∙ ap test (sym is) ∙ f .first (o .0) (o .1) b)
 
-        fewer : size (x .asks) < size (subsetOf D n) → costOf equalWeights (o .0) < costOf equalWeights n
-        fewer h = omega (arith, equal (o .0) (o .1), equal n (f .inside), ap size (o .2))
+        fewer : size (x .asks) < size (subsetOf D n) → cost (o .0) < cost n
+        fewer h = omega (arith, counts (o .0) (o .1), counts n (f .inside), ap size (o .2))
 
-        as-many : size (x .asks) ≡ size (subsetOf D n) → costOf equalWeights (o .0) ≡ costOf equalWeights n
-        as-many e = omega (arith, equal (o .0) (o .1), equal n (f .inside), ap size (o .2))
+        as-many : size (x .asks) ≡ size (subsetOf D n) → cost (o .0) ≡ cost n
+        as-many e = omega (arith, counts (o .0) (o .1), counts n (f .inside), ap size (o .2))
 
         smaller : x .asks < subsetOf D n → o .0 < n
         smaller h = falling (o .0) n (o .1) (omega (arith, o .2))
 
-    pub by-cost : questionFor D (firstOf (costOf equalWeights) (λ n. test (questionAt D n)) (2 ^ size D)) ≡ preferred keys test (candidates D)
-    by-cost = go (firstOf (costOf equalWeights) (λ n. test (questionAt D n)) (2 ^ size D)) refl
+    pub first-preferred : questionFor D (firstOf cost (λ n. test (questionAt D n)) (2 ^ size D)) ≡ preferred (keys pol) test (candidates D)
+    first-preferred = go (firstOf cost (λ n. test (questionAt D n)) (2 ^ size D)) refl
       where
-        go : (a : Option ℕ) → firstOf (costOf equalWeights) (λ n. test (questionAt D n)) (2 ^ size D) ≡ a → questionFor D a ≡ preferred keys test (candidates D)
+        go : (a : Option ℕ) → firstOf cost (λ n. test (questionAt D n)) (2 ^ size D) ≡ a → questionFor D a ≡ preferred (keys pol) test (candidates D)
         go none e =
-            sym (none-preferred test D l (λ q i.
+            sym (none-preferred pol test D l (λ q i.
             let o = all (q .asks) i in
-            ap test (ap (λ (y : ℕ). record { asks = y }) (sym (o .2))) ∙ first-none (costOf equalWeights) (λ n. test (questionAt D n)) (2 ^ size D) e (o .0) (o .1)))
+            ap test (ap (λ (y : ℕ). record { asks = y }) (sym (o .2))) ∙ first-none cost (λ n. test (questionAt D n)) (2 ^ size D) e (o .0) (o .1)))
         go (some n) e =
-            let f = first-some (costOf equalWeights) (λ n. test (questionAt D n)) (2 ^ size D) n e in
-            sym (one-preferred test D l (questionAt D n) (in-inside 16 D n) (f .passes) (after n f))
+            let f = first-some cost (λ n. test (questionAt D n)) (2 ^ size D) n e in
+            sym (one-preferred pol test D l (questionAt D n) (in-inside 16 D n) (f .passes) (after n f))
+
+  -- document 01's weights, and what a policy says of them
+  equal : (n : ℕ) → n < 2 ^ size D → costOf equalWeights n ≡ 18 * size (subsetOf D n)
+  unfolding costOf
+  equal n k = omega (arith, weight-equal 16 n, ones-size n (omega (arith, top)), sized n k)
+
+  in-policy : (pol : Policy) (n : ℕ) → n < 2 ^ size D → costIn pol D n ≡ 18 * size (subsetOf D n)
+  in-policy pol n k =
+      let c = costed (weightIn pol) n n k k n k in
+      omega (arith, c .0, total-ones 16 (subsetOf D n), ones-size (subsetOf D n) (in-lt 16 D n))
+
+  pub by-cost : (pol : Policy) (test : Question → Bool)
+      → questionFor D (firstOf (costIn pol D) (λ n. test (questionAt D n)) (2 ^ size D)) ≡ preferred (keys pol) test (candidates D)
+  by-cost pol = first-preferred pol (costIn pol D) (in-policy pol)
+
+  pub by-equal-cost : (pol : Policy) (test : Question → Bool)
+      → questionFor D (firstOf (costOf equalWeights) (λ n. test (questionAt D n)) (2 ^ size D)) ≡ preferred (keys pol) test (candidates D)
+  by-equal-cost pol = first-preferred pol (costOf equalWeights) equal
+
+  pub equal-costs : (pol : Policy) (n : ℕ) → n < 2 ^ size D → costOf equalWeights n ≡ costIn pol D n
+  equal-costs pol n k = equal n k ∙ sym (in-policy pol n k)

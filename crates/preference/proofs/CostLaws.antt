@@ -13,6 +13,7 @@ use Rattle.atoms.specs.Sets.{bit, size}
 use Rattle.atoms.proofs.SetLaws.{bit-first, bit-next}
 use Rattle.atoms.proofs.SizeLaws.{size-is}
 use Rattle.preference.specs.Order.{costOf, sum, weightOf}
+use Rattle.preference.specs.Subsets.{totalIn}
 use Rattle.preference.proofs.SumLaws.{sum-same, sum-shift}
 
 -- ---- weights
@@ -64,6 +65,12 @@ pub weight-equal : (k n : ℕ) → weightOf (replicate k 1) n ≡ onesIn k n
 unfolding weightOf onesIn
 weight-equal zero n = refl
 weight-equal (suc k) n = omega (arith, weight-equal k (n / 2))
+
+-- so does the total of a set whose members weigh 1 each
+pub total-ones : (k X : ℕ) → totalIn k (λ j. 1) X ≡ onesIn k X
+unfolding totalIn onesIn
+total-ones zero X = refl
+total-ones (suc k) X = omega (arith, total-ones k (X / 2))
 
 -- ---- sizes
 

@@ -8,7 +8,7 @@ use lib.Dec.{ltb}
 use borrow.Author.Tests.{le-ltb, lt-ltb}
 use native.Mathlib.Decide.{decLt, ℕ-discrete}
 use native.Mathlib.Omega.{arith}
-use Rattle.rules.specs.Rules.{Every}
+use Rattle.lists.specs.Lists.{Every}
 use Rattle.preference.specs.Preference.{lexBefore}
 use Rattle.preference.specs.Order.{Before, First, Result, Searched, before, costKeys, firstOf, found, nothing, place, searched, spent, trials, unlimited, upTo}
 use Rattle.preference.proofs.PreferLaws.{decides-before, preferred-none, preferred-some}

@@ -58,5 +58,7 @@ theorems = record {
   sized = λ D n l. by-cost.sized D l n;
   lightest = λ w D m n l. by-cost.lightest D l w m n;
   lightest-first = λ w test D n l. by-cost.lightest-first D l w test n;
-  by-cost = λ test D l. by-cost.by-cost D l test;
+  by-cost = λ pol test D l. by-cost.by-cost D l pol test;
+  by-equal-cost = λ pol test D l. by-cost.by-equal-cost D l pol test;
+  equal-costs = λ pol D n l. by-cost.equal-costs D l pol n;
 }

@@ -7,10 +7,11 @@ use mathlib.Core.Option.{Option, none, some}
 use Prim.Native.Nat.{_*_, _<_, _^_, _≤_, suc, ℕ}
 use lib.ListN.{getD, length, replicate}
 use Rattle.atoms.specs.Sets.{Subset, bit, size}
+use Rattle.rules.specs.Policy.{Policy}
 use Rattle.preference.specs.Preference.{preferred}
 use Rattle.preference.specs.Question.{Question, candidates, keys}
 use Rattle.preference.specs.Order.{Before, First, Result, Searched, before, costOf, firstOf, found, nothing, place, searched, spent, sum, weightOf}
-use Rattle.preference.specs.Subsets.{subsetOf, total, weightsOf}
+use Rattle.preference.specs.Subsets.{costIn, subsetOf, total, weightsOf}
 
 -- "The preferred set has the least total weight, then the fewest credentials, then the smallest number." (document 02, R-2), where credential k weighs w k
 abbrev pub Lighter : (ℕ → ℕ) → ℕ → ℕ → Type 0
@@ -72,6 +73,11 @@ pub record OrderTheorems : Type 0 where
   -- the first by cost is the lightest that passes
   pub lightest-first : (w : ℕ → ℕ) (test : Question → Bool) (D n : ℕ) → D < 2 ^ 16
       → firstOf (costOf (weightsOf w D)) (λ n. test (questionAt D n)) (2 ^ size D) ≡ some n → LightestOf w test D (subsetOf D n)
-  -- "among subsets of D that with P unlock the request, the preferred one is asked": the first by cost, whatever the test
-  pub by-cost : (test : Question → Bool) (D : ℕ) → D < 2 ^ 16
-      → questionFor D (firstOf (costOf equalWeights) (λ n. test (questionAt D n)) (2 ^ size D)) ≡ preferred keys test (candidates D)
+  -- "among subsets of D that with P unlock the request, the preferred one is asked": the first by the policy's costs, whatever the test
+  pub by-cost : (pol : Policy) (test : Question → Bool) (D : ℕ) → D < 2 ^ 16
+      → questionFor D (firstOf (costIn pol D) (λ n. test (questionAt D n)) (2 ^ size D)) ≡ preferred (keys pol) test (candidates D)
+  -- and the first with document 01's weights
+  pub by-equal-cost : (pol : Policy) (test : Question → Bool) (D : ℕ) → D < 2 ^ 16
+      → questionFor D (firstOf (costOf equalWeights) (λ n. test (questionAt D n)) (2 ^ size D)) ≡ preferred (keys pol) test (candidates D)
+  -- which are these costs
+  pub equal-costs : (pol : Policy) (D n : ℕ) → D < 2 ^ 16 → n < 2 ^ size D → costOf equalWeights n ≡ costIn pol D n

@@ -3,7 +3,10 @@ use mathlib.Core.Path.{_≡_}
 use mathlib.Core.List.{List, [], _∷_}
 use Prim.Native.Nat.{_%_, _*_, _+_, _/_, suc, zero, ℕ}
 use Rattle.atoms.specs.Sets.{size}
+use Rattle.rules.specs.Policy.{Policy}
 use Rattle.preference.specs.Candidates.{Different, Members, taken}
+use Rattle.preference.specs.Order.{costOf}
+use Rattle.preference.specs.Question.{weightIn}
 
 -- by the lowest bit of a set: the first where it is 0, else the second
 abbrev pub pick : {A : Type 0} → ℕ → A → A → A
@@ -40,3 +43,7 @@ pub record MembersOf (D : ℕ) (members : List ℕ) : Type 0 where
   pub each : Members members (size D)
   pub different : Different members (size D)
   pub subset : (n : ℕ) → taken members (size D) n ≡ subsetOf D n
+
+-- the cost of candidate n of D, where credentials weigh what the policy says
+abbrev pub costIn : Policy → ℕ → ℕ → ℕ
+costIn pol D n = costOf (weightsOf (weightIn pol) D) n

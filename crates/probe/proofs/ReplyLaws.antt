@@ -8,18 +8,19 @@ use borrow.Author.Tests.{le-leb, lt-leb}
 use lib.Dec.{leb}
 use lib.Pow.{pow-pos}
 use native.Mathlib.Omega.{arith}
+use Rattle.encoding.specs.LittleEndian.{Bytes}
 use Rattle.atoms.specs.Atoms.{firstDerived, lastDerived}
-use Rattle.atoms.specs.LittleEndian.{Bytes}
 use Rattle.atoms.specs.Sets.{Member, difference, disjoint, size, union}
 use Rattle.atoms.proofs.SetLaws.{difference-iff, true-disjoint, union-empty}
 use Rattle.rules.specs.Model.{model}
-use Rattle.rules.specs.Rules.{Rule}
-use Rattle.records.specs.Records.{accessKind, rulesOf}
-use Rattle.policy.specs.PolicyTest.{policyRefusal}
-use Rattle.policy.specs.WrittenForm.{Refusal, WellFormed}
-use Rattle.evaluation.specs.Arrays.{LaidOut, evaluated}
-use Rattle.evaluation.specs.Unlocking.{grants, unlocks}
-use Rattle.evaluation.proofs.AccessLaws.{laid-model}
+use Rattle.rules.specs.Policy.{Policy}
+use Rattle.rules.specs.Unlocking.{grants, unlocks}
+use Rattle.records.specs.Levels.{level, levelCount}
+use Rattle.records.specs.Policies.{policyOf}
+use Rattle.form.specs.WrittenForm.{Refusal, WellFormed}
+use Rattle.form.specs.PolicyTest.{policyRefusal}
+use Rattle.arrays.specs.Arrays.{LaidOut, evaluated}
+use Rattle.layout.proofs.AccessLaws.{access-model}
 use Rattle.preference.specs.Candidates.{switched}
 use Rattle.preference.specs.InArrays.{opensAt, opensIn}
 use Rattle.preference.specs.Order.{Result, Searched, costOf, found, nothing, searched, spent, trials}
@@ -56,47 +57,47 @@ same-found f g same D ws limit =
 
 -- ---- rules in arrays
 
-module _ (h p m s : List ℕ) (r P D : ℕ) (small : D < 2 ^ 16) (apart : disjoint P D ≡ true) (members : List ℕ) (listed : MembersOf D members) (count : ℕ)
+module _ (levels : ℕ) (h p m s : List ℕ) (r P D : ℕ) (small : D < 2 ^ 16) (apart : disjoint P D ≡ true) (members : List ℕ) (listed : MembersOf D members) (count : ℕ)
     (sized : count ≡ size D) where
   -- a candidate asks for a subset of D
   asked : (n : ℕ) → switched 0 members count n ≡ subsetOf D n
-  asked n = ap (λ (k : ℕ). switched 0 members k n) sized ∙ asks h p m s r P D small apart members listed n
+  asked n = ap (λ (k : ℕ). switched 0 members k n) sized ∙ asks levels h p m s r P D small apart members listed n
 
   -- the search over the members of D has given a
-  pub replies-found : (ws : List ℕ) (limit : ℕ) (a : Result) → a ≡ searched (costOf ws) (opensAt h p m s r P members count) (2 ^ count) limit
-      → resultReply (switched 0 members count) a ≡ foundReply (opensIn h p m s r P) D ws limit
+  pub replies-found : (ws : List ℕ) (limit : ℕ) (a : Result) → a ≡ searched (costOf ws) (opensAt levels h p m s r P members count) (2 ^ count) limit
+      → resultReply (switched 0 members count) a ≡ foundReply (opensIn levels h p m s r P) D ws limit
   unfolding foundReply
   replies-found ws limit a is =
       same-reply (switched 0 members count) (subsetOf D) asked a
       ∙ ap (resultReply (subsetOf D))
-      (is ∙ ap (λ (k : ℕ). searched (costOf ws) (opensAt h p m s r P members k) (2 ^ k) limit) sized
-      ∙ searched-same (costOf ws) (opensAt h p m s r P members (size D)) (λ n. opensIn h p m s r P (questionAt D n)) (2 ^ size D)
-      (same-test h p m s r P D small apart members listed) (pow-pos (size D)) limit)
+      (is ∙ ap (λ (k : ℕ). searched (costOf ws) (opensAt levels h p m s r P members k) (2 ^ k) limit) sized
+      ∙ searched-same (costOf ws) (opensAt levels h p m s r P members (size D)) (λ n. opensIn levels h p m s r P (questionAt D n)) (2 ^ size D)
+      (same-test levels h p m s r P D small apart members listed) (pow-pos (size D)) limit)
 
 -- ---- an accepted policy's rules in arrays; x says whether the shown credentials C unlock the request
 
-module _ (bytes : List ℕ) (b : Bytes bytes) (w : WellFormed bytes) (h p m s : List ℕ) (l : LaidOut (rulesOf accessKind bytes) h p m s) (r P C : ℕ) (e : C ≡ P) (x : Bool)
-    (is : x ≡ grants r (evaluated h p m s C)) where
-  abbrev access : List Rule
-  access = rulesOf accessKind bytes
+module _ (bytes : List ℕ) (b : Bytes bytes) (w : WellFormed bytes) (h p m s : List ℕ) (l : LaidOut level levelCount (policyOf bytes .access) h p m s)
+    (r P C : ℕ) (e : C ≡ P) (x : Bool) (is : x ≡ grants r (evaluated levelCount h p m s C)) where
+  abbrev pol : Policy
+  pol = policyOf bytes
 
-  unlocked : x ≡ unlocks access r P
+  unlocked : x ≡ unlocks pol r P
   unfolding unlocks
-  unlocked = is ∙ ap (grants r) (laid-model bytes b w h p m s l C ∙ ap (model access) e)
+  unlocked = is ∙ ap (grants r) (access-model bytes b w h p m s l C ∙ ap (model (pol .access)) e)
 
   -- asking nothing does not unlock it either
-  pub locked-alone : x ≡ false → opensIn h p m s r P noQuestion ≡ false
-  locked-alone f = ap (λ (y : ℕ). grants r (evaluated h p m s y)) (union-empty P ∙ sym e) ∙ sym is ∙ f
+  pub locked-alone : x ≡ false → opensIn levelCount h p m s r P noQuestion ≡ false
+  locked-alone f = ap (λ (y : ℕ). grants r (evaluated levelCount h p m s y)) (union-empty P ∙ sym e) ∙ sym is ∙ f
 
-  pub replies-open : x ≡ true → (D : ℕ) (ws : List ℕ) (limit : ℕ) → 0 ≡ acceptedReply (rulesOf accessKind bytes) r P D ws limit
+  pub replies-open : x ≡ true → (D : ℕ) (ws : List ℕ) (limit : ℕ) → 0 ≡ acceptedReply (policyOf bytes) r P D ws limit
   unfolding acceptedReply
-  replies-open t D ws limit = ap (λ (y : Bool). cond y 0 (foundReply (opensWith access r P) D ws limit)) (sym t ∙ unlocked)
+  replies-open t D ws limit = ap (λ (y : Bool). cond y 0 (foundReply (opensWith pol r P) D ws limit)) (sym t ∙ unlocked)
 
-  pub replies-locked : x ≡ false → (D : ℕ) (ws : List ℕ) (limit : ℕ) → foundReply (opensIn h p m s r P) D ws limit ≡ acceptedReply (rulesOf accessKind bytes) r P D ws limit
+  pub replies-locked : x ≡ false → (D : ℕ) (ws : List ℕ) (limit : ℕ) → foundReply (opensIn levelCount h p m s r P) D ws limit ≡ acceptedReply (policyOf bytes) r P D ws limit
   unfolding acceptedReply unlocks
   replies-locked f D ws limit =
-      same-found (opensIn h p m s r P) (opensWith access r P) (λ q. ap (grants r) (laid-model bytes b w h p m s l (union P (q .asks)))) D ws limit
-      ∙ ap (λ (y : Bool). cond y 0 (foundReply (opensWith access r P) D ws limit)) (sym f ∙ unlocked)
+      same-found (opensIn levelCount h p m s r P) (opensWith pol r P) (λ q. ap (grants r) (access-model bytes b w h p m s l (union P (q .asks)))) D ws limit
+      ∙ ap (λ (y : Bool). cond y 0 (foundReply (opensWith pol r P) D ws limit)) (sym f ∙ unlocked)
 
 -- ---- the tests before it
 
@@ -106,7 +107,7 @@ rest-apart W P D e = true-disjoint P D (λ k a b. difference-iff W P k .0 (subst
 
 module _ (bytes : List ℕ) (r P W : ℕ) (ws : List ℕ) (limit : ℕ) where
   abbrev reply : ℕ
-  reply = acceptedReply (rulesOf accessKind bytes) r P (difference W P) ws limit
+  reply = acceptedReply (policyOf bytes) r P (difference W P) ws limit
 
   by-tests : (o : Option Refusal) (x y : Bool) → o ≡ policyRefusal bytes → leb firstDerived r ≡ x → leb r lastDerived ≡ y
       → testedReply o (x && y) reply ≡ searchReply bytes r P W ws limit
@@ -126,6 +127,6 @@ module _ (bytes : List ℕ) (r P W : ℕ) (ws : List ℕ) (limit : ℕ) where
   replies-above e k i = by-tests none true false e (le-leb 16 r k) (lt-leb r 62 i)
 
   pub replies-tested : none ≡ policyRefusal bytes → 16 ≤ r → r ≤ 62 → (D x : ℕ) → D ≡ difference W P
-      → x ≡ acceptedReply (rulesOf accessKind bytes) r P D ws limit → x ≡ searchReply bytes r P W ws limit
+      → x ≡ acceptedReply (policyOf bytes) r P D ws limit → x ≡ searchReply bytes r P W ws limit
   replies-tested e k i D x d is =
-      is ∙ ap (λ (y : ℕ). acceptedReply (rulesOf accessKind bytes) r P y ws limit) d ∙ by-tests none true true e (le-leb 16 r k) (le-leb r 62 i)
+      is ∙ ap (λ (y : ℕ). acceptedReply (policyOf bytes) r P y ws limit) d ∙ by-tests none true true e (le-leb 16 r k) (le-leb r 62 i)

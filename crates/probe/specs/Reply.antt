@@ -1,16 +1,17 @@
 -- The search with weights and a limit, as a number. Assumes nothing.
-use mathlib.Core.Bool.{Bool, _&&_, cond}
+use mathlib.Core.Path.{_≡_}
+use mathlib.Core.Bool.{Bool, _&&_, cond, true}
 use mathlib.Core.List.{List}
 use mathlib.Core.Option.{Option, none, some}
-use Prim.Native.Nat.{_*_, _+_, _^_, ℕ}
+use Prim.Native.Nat.{_*_, _+_, _^_, _≤_, ℕ}
 use lib.Dec.{leb}
-use Rattle.atoms.specs.Atoms.{firstDerived, lastDerived}
-use Rattle.atoms.specs.Sets.{difference, size}
-use Rattle.rules.specs.Rules.{Rule}
-use Rattle.records.specs.Records.{accessKind, rulesOf}
-use Rattle.policy.specs.PolicyTest.{policyRefusal}
-use Rattle.policy.specs.WrittenForm.{Refusal}
-use Rattle.evaluation.specs.Unlocking.{unlocks}
+use Rattle.atoms.specs.Atoms.{firstDerived, lastDerived, violation}
+use Rattle.atoms.specs.Sets.{difference, disjoint, size}
+use Rattle.rules.specs.Policy.{Policy}
+use Rattle.rules.specs.Unlocking.{unlocks}
+use Rattle.records.specs.Policies.{policyOf}
+use Rattle.form.specs.WrittenForm.{Refusal, WellFormed}
+use Rattle.form.specs.PolicyTest.{policyRefusal}
 use Rattle.preference.specs.Order.{Result, costOf, found, nothing, searched, spent}
 use Rattle.preference.specs.OrderTheorems.{questionAt}
 use Rattle.preference.specs.Question.{Question, opensWith}
@@ -27,8 +28,14 @@ unfoldable pub foundReply : (Question → Bool) → ℕ → List ℕ → ℕ →
 foundReply test D weights limit = resultReply (subsetOf D) (searched (costOf weights) (λ n. test (questionAt D n)) (2 ^ size D) limit)
 
 -- 0 where the shown set P alone unlocks the request r; else the search for what unlocks it with P
-unfoldable pub acceptedReply : List Rule → ℕ → ℕ → ℕ → List ℕ → ℕ → ℕ
-acceptedReply access r P D weights limit = cond (unlocks access r P) 0 (foundReply (opensWith access r P) D weights limit)
+unfoldable pub acceptedReply : Policy → ℕ → ℕ → ℕ → List ℕ → ℕ → ℕ
+acceptedReply pol r P D weights limit = cond (unlocks pol r P) 0 (foundReply (opensWith pol r P) D weights limit)
+
+-- an accepted policy, a request that is an atom, and nothing of what may be asked shown
+pub record ProbeInput (policy : List ℕ) (request shown within : ℕ) : Type 0 where
+  pub form : WellFormed policy
+  pub atom : request ≤ violation
+  pub apart : disjoint shown within ≡ true
 
 -- 3 where the policy is refused or the request is not 16 to 62
 abbrev pub refusedReply : ℕ
@@ -42,4 +49,4 @@ testedReply (some f) service reply = refusedReply
 unfoldable pub searchReply : List ℕ → ℕ → ℕ → ℕ → List ℕ → ℕ → ℕ
 searchReply bytes r P within weights limit =
     testedReply (policyRefusal bytes) (leb firstDerived r && leb r lastDerived)
-    (acceptedReply (rulesOf accessKind bytes) r P (difference within P) weights limit)
+    (acceptedReply (policyOf bytes) r P (difference within P) weights limit)

@@ -1,28 +1,26 @@
 // The search with weights and a limit, for C.
 ghost use mathlib.Core.Path.{_≡_};
-ghost use mathlib.Core.Bool.{false, true};
 ghost use Prim.Native.Nat.{_<_, _^_, _≤_};
-ghost use Rattle.atoms.specs.Sets.{difference, disjoint};
-ghost use Rattle.records.specs.Records.{accessKind, rulesOf};
-ghost use Rattle.policy.specs.WrittenForm.{WellFormed};
-ghost use Rattle.evaluation.specs.Arrays.{Placed};
+ghost use Rattle.atoms.specs.Sets.{difference};
+ghost use Rattle.records.specs.Levels.{levelCount};
+ghost use Rattle.records.specs.Policies.{policyOf};
 ghost use Rattle.preference.specs.Candidates.{switched};
-ghost use Rattle.preference.specs.InArrays.{opensIn};
+ghost use Rattle.preference.specs.InArrays.{LockedRequest, opensIn};
 ghost use Rattle.preference.specs.Order.{trials};
-ghost use Rattle.preference.specs.Question.{noQuestion};
 ghost use Rattle.search.specs.Types.{resultOf};
-ghost use Rattle.probe.specs.Reply.{acceptedReply, foundReply, resultReply, searchReply};
+ghost use Rattle.probe.specs.Reply.{ProbeInput, acceptedReply, foundReply, resultReply, searchReply};
+use arrays::Starts;
 use atoms::AtomSet;
 use atoms::FIRST_DERIVED;
 use atoms::LAST_DERIVED;
-use evaluation::layout::access_rules;
 use evaluation::levels::unlocks;
+use layout::access_rules;
 use policy::Checked;
 use policy::check;
 use question::members::write_members;
-use search::answer::Answer;
 use search::candidate::switched;
 use search::first;
+use search::result::SearchResult;
 
 // The shown set alone unlocks the request.
 const OPEN: u64 = 0;
@@ -70,9 +68,9 @@ fn accepted(
     weights: &[u8; 16],
     limit: u32,
 ) -> u64
-    requires { ⌜ WellFormed (now policy) × ((request ≤ 63) × (disjoint shown within ≡ true)) ⌝ }
+    requires { ⌜ ProbeInput (now policy) request shown within ⌝ }
     ensures { λ r.
-        ⌜ r ≡ acceptedReply (rulesOf accessKind (now (policy .entry))) request shown within (now (weights .entry)) limit ⌝ }
+        ⌜ r ≡ acceptedReply (policyOf (now (policy .entry))) request shown within (now (weights .entry)) limit ⌝ }
 {
     let mut heads = [1u64; 128];
     let mut positive = [0u64; 128];
@@ -100,17 +98,16 @@ fn found<'a>(
     heads: &'a [u64; 128],
     positive: &'a [u64; 128],
     negated: &'a [u64; 128],
-    starts: &'a [usize; 10],
+    starts: &'a Starts,
     request: u8,
     shown: u16,
     within: u16,
     weights: &'a [u8; 16],
     limit: u32,
 ) -> u64
-    requires { ⌜ (Placed (now heads) (now starts) × ((request ≤ 63) × (disjoint shown within ≡ true)))
-        × (opensIn (now heads) (now positive) (now negated) (now starts) request shown noQuestion ≡ false) ⌝ }
+    requires { ⌜ LockedRequest levelCount (now heads) (now positive) (now negated) (now starts) request shown within ⌝ }
     ensures { λ r.
-        ⌜ r ≡ foundReply (opensIn (now (heads .entry)) (now (positive .entry)) (now (negated .entry)) (now (starts .entry)) request shown)
+        ⌜ r ≡ foundReply (opensIn levelCount (now (heads .entry)) (now (positive .entry)) (now (negated .entry)) (now (starts .entry)) request shown)
         within (now (weights .entry)) limit ⌝ }
 {
     let mut members = [0u16; 16];
@@ -133,17 +130,17 @@ fn found<'a>(
 }
 
 // The search's answer as a number: the place from bit 8, and the asked set from bit 32.
-fn reply(answer: Answer, members: &[u16; 16], count: usize) -> u64
+fn reply(answer: SearchResult, members: &[u16; 16], count: usize) -> u64
     requires { ⌜ (count ≤ 16) × (trials (resultOf answer) < 2 ^ 32) ⌝ }
     ensures { λ r. ⌜ r ≡ resultReply (switched 0 (now (members .entry)) count) (resultOf answer) ⌝ }
 {
     match answer {
-        Answer::Found { candidate, place } => {
+        SearchResult::Found { candidate, place } => {
             let asked = switched(0, members, count, candidate);
             256 * (place as u64) + 4294967296 * (asked as u64)
         }
-        Answer::Nothing { tried } => 1 + 256 * (tried as u64),
-        Answer::Spent => SPENT,
+        SearchResult::Nothing { tried } => 1 + 256 * (tried as u64),
+        SearchResult::Spent => SPENT,
     }
 }
 

@@ -9,30 +9,29 @@ use native.Mathlib.Omega.{arith}
 use Rattle.atoms.specs.Sets.{Member, disjoint, size, union}
 use Rattle.atoms.proofs.SetLaws.{bit-empty, bit-union, disjoint-true, ext, none-in-empty, true-disjoint}
 use Rattle.atoms.proofs.SizeLaws.{size-credentials}
-use Rattle.evaluation.specs.Arrays.{evaluated}
-use Rattle.evaluation.specs.Unlocking.{grants}
+use Rattle.rules.specs.Unlocking.{grants}
+use Rattle.arrays.specs.Arrays.{evaluated}
 use Rattle.preference.specs.Candidates.{Members, switched, taken}
-use Rattle.preference.specs.InArrays.{opensAt, opensIn}
+use Rattle.preference.specs.InArrays.{PrefersIn, opensAt, opensIn}
 use Rattle.preference.specs.Order.{Result, costOf, firstOf, searched, unlimited}
 use Rattle.preference.specs.OrderTheorems.{equalWeights, questionAt, questionFor}
-use Rattle.preference.specs.Preference.{preferred}
-use Rattle.preference.specs.Question.{Question, candidates, keys, noQuestion}
+use Rattle.preference.specs.Question.{Question, noQuestion}
 use Rattle.preference.specs.Subsets.{MembersOf, subsetOf}
-use Rattle.preference.proofs.ByCostLaws.{by-cost}
+use Rattle.preference.proofs.ByCostLaws.{by-equal-cost}
 use Rattle.preference.proofs.NumberLaws.{in-empty, in-inside}
 use Rattle.preference.proofs.OrderLaws.{no-limit, searched-same}
 use Rattle.preference.proofs.SwitchLaws as switching
 use Rattle.search.specs.Types.{resultOf}
-use Rattle.search.specs.declared.answer.Answer.{Answer}
-use Rattle.search.specs.declared.answer.Answer.the-variants.{Found, Nothing, Spent}
-use Rattle.question.specs.Types.{answerAsks}
+use Rattle.search.specs.declared.result.SearchResult.{SearchResult}
+use Rattle.search.specs.declared.result.SearchResult.the-variants.{Found, Nothing, Spent}
+use Rattle.question.specs.Types.{resultAsks}
 
 empty-union : (a : ℕ) → union 0 a ≡ a
 empty-union a = ext (λ k. bit-union 0 a k ∙ omega (arith, bit-empty k))
 
-module _ (h p m s : List ℕ) (r P D : ℕ) (l : D < 2 ^ 16) (apart : disjoint P D ≡ true) (members : List ℕ) (listed : MembersOf D members) where
+module _ (levels : ℕ) (h p m s : List ℕ) (r P D : ℕ) (l : D < 2 ^ 16) (apart : disjoint P D ≡ true) (members : List ℕ) (listed : MembersOf D members) where
   abbrev test : Question → Bool
-  test = opensIn h p m s r P
+  test = opensIn levels h p m s r P
 
   -- what a candidate asks for, and what it tries
   pub asks : (n : ℕ) → switched 0 members (size D) n ≡ subsetOf D n
@@ -48,19 +47,19 @@ module _ (h p m s : List ℕ) (r P D : ℕ) (l : D < 2 ^ 16) (apart : disjoint P
       (true-disjoint P (taken members (size D) n) (λ k a b. disjoint-true P D apart k a (in-inside 16 D n k (subst (Member k) e b))))
       ∙ ap (λ (x : ℕ). union P x) e
 
-  pub same-test : (n : ℕ) → opensAt h p m s r P members (size D) n ≡ test (questionAt D n)
+  pub same-test : (n : ℕ) → opensAt levels h p m s r P members (size D) n ≡ test (questionAt D n)
   unfolding opensAt
-  same-test n = ap (λ (x : ℕ). grants r (evaluated h p m s x)) (tries n)
+  same-test n = ap (λ (x : ℕ). grants r (evaluated levels h p m s x)) (tries n)
 
   module _ (count : ℕ) (is : count ≡ size D) where
     pub counted : Members members count
     counted = subst (Members members) (sym is) (listed .each)
 
     -- the empty candidate asks for nothing
-    pub locked : test noQuestion ≡ false → opensAt h p m s r P members count 0 ≡ false
+    pub locked : test noQuestion ≡ false → opensAt levels h p m s r P members count 0 ≡ false
     locked f =
-        ap (λ (x : ℕ). opensAt h p m s r P members x 0) is ∙ same-test 0
-        ∙ ap (λ (x : ℕ). grants r (evaluated h p m s (union P x))) (in-empty 16 D) ∙ f
+        ap (λ (x : ℕ). opensAt levels h p m s r P members x 0) is ∙ same-test 0
+        ∙ ap (λ (x : ℕ). grants r (evaluated levels h p m s (union P x))) (in-empty 16 D) ∙ f
 
     few : 2 ^ size D ≤ 65536
     few = pow-mono {i = size D} {j = 16} (size-credentials D l)
@@ -71,16 +70,16 @@ module _ (h p m s : List ℕ) (r P D : ℕ) (l : D < 2 ^ 16) (apart : disjoint P
     abbrev given : Option ℕ → Result
     given = unlimited (costOf equalWeights) (λ n. test (questionAt D n)) (2 ^ size D)
 
-    pub answered : (a : Answer) → resultOf a ≡ searched (costOf equalWeights) (opensAt h p m s r P members count) (2 ^ count) 65535
-        → answerAsks members count a ≡ preferred keys test (candidates D)
+    pub answered : (a : SearchResult) → resultOf a ≡ searched (costOf equalWeights) (opensAt levels h p m s r P members count) (2 ^ count) 65535
+        → PrefersIn levels h p m s r P D (resultAsks members count a)
     unfolding first
-    answered a e = go a first all ∙ by-cost D l test
+    answered a e pol = go a first all ∙ by-equal-cost D l pol test
       where
         all : resultOf a ≡ given first
         all =
             e
-            ∙ ap (λ (x : ℕ). searched (costOf equalWeights) (opensAt h p m s r P members x) (2 ^ x) 65535) is
-            ∙ searched-same (costOf equalWeights) (opensAt h p m s r P members (size D)) (λ n. test (questionAt D n)) (2 ^ size D) same-test (pow-pos (size D)) 65535
+            ∙ ap (λ (x : ℕ). searched (costOf equalWeights) (opensAt levels h p m s r P members x) (2 ^ x) 65535) is
+            ∙ searched-same (costOf equalWeights) (opensAt levels h p m s r P members (size D)) (λ n. test (questionAt D n)) (2 ^ size D) same-test (pow-pos (size D)) 65535
             ∙ no-limit (costOf equalWeights) (λ n. test (questionAt D n)) (2 ^ size D) 65535 few
 
         question : (n k : ℕ) → n ≡ k → some (record { asks = switched 0 members count n }) ≡ some (questionAt D k)
@@ -88,7 +87,7 @@ module _ (h p m s : List ℕ) (r P D : ℕ) (l : D < 2 ^ 16) (apart : disjoint P
             ap (λ (x : ℕ). some (record { asks = x }))
             (ap (λ (x : ℕ). switched 0 members x n) is ∙ asks n ∙ ap (subsetOf D) d)
 
-        go : (a : Answer) (o : Option ℕ) → resultOf a ≡ given o → answerAsks members count a ≡ questionFor D o
+        go : (a : SearchResult) (o : Option ℕ) → resultOf a ≡ given o → resultAsks members count a ≡ questionFor D o
         go (Found n q) (some k) f = question n k (cc)
         go (Found n q) none f = absurd (let z : _≡_ {A = ℕ} 0 1 = cc in omega arith)
         go (Nothing q) (some k) f = absurd (let z : _≡_ {A = ℕ} 0 1 = cc in omega arith)

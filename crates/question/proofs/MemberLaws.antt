@@ -16,8 +16,8 @@ use native.Mathlib.Omega.{arith}
 use Rattle.atoms.specs.Sets.{member, size, union}
 use Rattle.atoms.proofs.SetLaws.{bit-lt, single-is}
 use Rattle.atoms.proofs.SizeLaws.{size-credentials}
-use Rattle.evaluation.specs.Arrays.{OneAtom}
-use Rattle.evaluation.proofs.HeadLaws.{one-single}
+use Rattle.arrays.specs.Arrays.{OneAtom}
+use Rattle.arrays.proofs.HeadLaws.{one-single}
 use Rattle.preference.specs.Candidates.{taken}
 use Rattle.preference.specs.Subsets.{MembersOf, subsetOf}
 use Rattle.preference.proofs.NumberLaws.{ones-none, ones-size}

@@ -1,7 +1,6 @@
 -- Subset number n of D, one credential after another. Assumes nothing.
 use mathlib.Core.Path.{_∙_, _≡_, ap, refl, sym}
 use Prim.Native.Nat.{_%_, _*_, _+_, _-_, _/_, _<_, _^_, _≤_, suc, zero, ℕ}
-use lib.Pow.{pow-mono}
 use native.Mathlib.Nat.{mul-add, mul-assoc, mul-comm, mul-one, mul-zero}
 use native.Mathlib.Numerals.{add-one}
 use native.Mathlib.Omega.{arith}
@@ -39,9 +38,6 @@ module _ (D n k subset place members number : ℕ) (l : k < 16) (h : Taking D n 
       go zero i = omega (arith, mul-zero place)
       go (suc zero) i = omega (arith, mul-one place)
       go (suc (suc x)) i = absurd (omega arith)
-
-  pub taking-small : place ≤ 32768
-  taking-small = omega (arith, h .is, pow-mono {i = k} {j = 15} (omega arith))
 
   pub taking-more : Taking D n (k + 1) (subset + place * (members % 2 * (number % 2))) (2 * place) (members / 2) (number / 2 ^ (members % 2))
   taking-more =

@@ -1,24 +1,26 @@
-// The question: the preferred set of what may be asked (document 01, "Sessions").
+// The question: the preferred one of what may be asked (document 01, "Sessions").
 ghost use mathlib.Core.Path.{_≡_};
-ghost use mathlib.Core.Bool.{false, true};
 ghost use Prim.Native.Nat.{_≤_};
-ghost use Rattle.atoms.specs.Sets.{disjoint};
-ghost use Rattle.evaluation.specs.Arrays.{Placed};
-ghost use Rattle.preference.specs.InArrays.{opensIn};
-ghost use Rattle.preference.specs.Preference.{preferred};
-ghost use Rattle.preference.specs.Question.{candidates, keys, noQuestion};
-ghost use Rattle.question.specs.Types.{answerAsks, foundOf};
+ghost use Rattle.records.specs.Levels.{levelCount};
+ghost use Rattle.preference.specs.InArrays.{LockedRequest, PrefersIn};
+ghost use Rattle.question.specs.Types.{resultAsks, foundOf};
+use arrays::Starts;
 use atoms::AtomSet;
 use members::write_members;
-use search::answer::Answer;
 use search::candidate::switched;
 use search::first;
+use search::result::SearchResult;
 
 pub mod members;
 
-// The preferred set, or none that unlocks.
+// What is asked: a set of credentials.
+pub struct Question {
+    pub asks: u16,
+}
+
+// The preferred question, or none that unlocks.
 pub enum Found {
-    Set(u16),
+    Preferred(Question),
     Nothing,
 }
 
@@ -30,16 +32,14 @@ pub fn preferred<'a>(
     heads: &'a [u64; 128],
     positive: &'a [u64; 128],
     negated: &'a [u64; 128],
-    starts: &'a [usize; 10],
+    starts: &'a Starts,
     request: u8,
     shown: u16,
     within: u16,
 ) -> Found
-    requires { ⌜ (Placed (now heads) (now starts) × ((request ≤ 63) × (disjoint shown within ≡ true)))
-        × (opensIn (now heads) (now positive) (now negated) (now starts) request shown noQuestion ≡ false) ⌝ }
+    requires { ⌜ LockedRequest levelCount (now heads) (now positive) (now negated) (now starts) request shown within ⌝ }
     ensures { λ r.
-        ⌜ foundOf r ≡ preferred keys (opensIn (now (heads .entry)) (now (positive .entry)) (now (negated .entry)) (now (starts .entry)) request shown)
-        (candidates within) ⌝ }
+        ⌜ PrefersIn levelCount (now (heads .entry)) (now (positive .entry)) (now (negated .entry)) (now (starts .entry)) request shown within (foundOf r) ⌝ }
 {
     let mut members = [0u16; 16];
     write_members(&mut members, within);
@@ -60,14 +60,17 @@ pub fn preferred<'a>(
     asked(answer, &members, count)
 }
 
-// The set that a candidate takes.
-fn asked(answer: Answer, members: &[u16; 16], count: usize) -> Found
+// The question that a candidate stands for.
+fn asked(answer: SearchResult, members: &[u16; 16], count: usize) -> Found
     requires { ⌜ count ≤ 16 ⌝ }
-    ensures { λ r. ⌜ foundOf r ≡ answerAsks (now (members .entry)) count answer ⌝ }
+    ensures { λ r. ⌜ foundOf r ≡ resultAsks (now (members .entry)) count answer ⌝ }
 {
     match answer {
-        Answer::Found { candidate, place } => Found::Set(switched(0, members, count, candidate)),
-        Answer::Nothing { tried } => Found::Nothing,
-        Answer::Spent => Found::Nothing,
+        SearchResult::Found { candidate, place } => {
+            let asks = switched(0, members, count, candidate);
+            Found::Preferred(Question { asks })
+        }
+        SearchResult::Nothing { tried } => Found::Nothing,
+        SearchResult::Spent => Found::Nothing,
     }
 }

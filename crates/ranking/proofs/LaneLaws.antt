@@ -7,11 +7,17 @@ use lib.ListN.{getD}
 use native.Mathlib.Decide.{decLt, ℕ-discrete}
 use native.Mathlib.Nat.{not-suc-le-zero}
 use native.Mathlib.Omega.{arith}
+use Rattle.validation.proofs.TestLaws.{eqb-true, true-eqb}
 use Rattle.atoms.specs.Sets.{bit}
 use Rattle.atoms.proofs.SetLaws.{bit-empty}
-use Rattle.atoms.proofs.TestLaws.{eqb-true, true-eqb}
 use Rattle.ranking.specs.Keys.{never}
 use Rattle.ranking.specs.Cheapest.{Cheapest, Joined, Passing}
+
+-- of word t the lanes before i are read
+pub record InWord (keys words : List ℕ) (t word least i : ℕ) : Type 0 where
+  pub low : i ≤ 64
+  pub read : word ≡ getD words t 0
+  pub cheapest : Cheapest keys words (64 * t + i) least
 
 module _ (keys words : List ℕ) where
   pub cheapest-none : Cheapest keys words 0 never

@@ -9,9 +9,10 @@ use lib.Dec.{ltb, ltb→lt}
 use lib.ListN.{getD}
 use native.Mathlib.Decide.{decLt}
 use native.Mathlib.Omega.{arith}
-use Rattle.atoms.proofs.TestLaws.{true-T}
+use Rattle.validation.proofs.TestLaws.{true-T}
 use Rattle.preference.proofs.SumLaws.{sum-next, sum-none, sum-start}
 use Rattle.preference.specs.Order.{sum}
+use Rattle.ranking.specs.Keys.{never}
 use Rattle.ranking.specs.Place.{below, keysBelow, keysIn, narrow}
 
 pub below-yes : {a b : ℕ} → a < b → below a b ≡ 1
@@ -72,3 +73,23 @@ half-past low lanes high blocks limit top middle p past h l e t (inl i) = subst 
 half-past low lanes high blocks limit top middle p past h l e t (inr (y, i)) =
     subst (λ (x : ℕ). limit < keysIn low lanes high blocks (256 * x)) (sym i)
     (subst (λ (x : ℕ). limit < x) e (ltb→lt limit p (true-T (sym t ∙ y))))
+
+-- ---- the loops
+
+-- n of the first i keys are below the bar
+pub record KeysCounted (keys : List ℕ) (count bar i n : ℕ) : Type 0 where
+  pub low : i ≤ count
+  pub most : n ≤ i
+  pub counted : n ≡ keysBelow keys i bar
+
+-- n candidates of the first b blocks have a key below the given one
+pub record BlocksCounted (low : List ℕ) (lanes : ℕ) (high : List ℕ) (blocks key b n : ℕ) : Type 0 where
+  pub few : b ≤ blocks
+  pub most : n ≤ 256 * b
+  pub counted : n ≡ keysIn low lanes high b key
+
+-- a bar is between l and h: blocks from h on stand past the limit
+pub record Between (low : List ℕ) (lanes : ℕ) (high : List ℕ) (blocks limit l h : ℕ) : Type 0 where
+  pub ordered : l ≤ h
+  pub small : h < never
+  pub past : limit < keysIn low lanes high blocks (256 * h)

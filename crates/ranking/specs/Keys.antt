@@ -18,6 +18,18 @@ keyOf cost n = 65536 * cost n + n
 abbrev pub widened : ℕ → ℕ
 widened x = 65536 * (x / 256) + x % 256
 
+-- what a member more needs: room for as many totals again, and no sum with its weight too large
+pub record Extendable (top weight : ℕ) (totals : List ℕ) : Type 0 where
+  pub few : top ≤ 128
+  pub room : top + top ≤ length totals
+  pub fits : (i : ℕ) → i < top → getD totals i 0 + weight < 2 ^ 32
+
+-- what writing the candidates of some members needs: at most eight of the sixteen, from one on, and room for them
+pub record Writable (from members : ℕ) (table : List ℕ) : Type 0 where
+  pub few : members ≤ 8
+  pub within : from + members ≤ 16
+  pub room : 2 ^ members ≤ length table
+
 -- the total weights with one member more
 pub record Extended (top weight : ℕ) (old new : List ℕ) : Type 0 where
   pub long : length new ≡ length old

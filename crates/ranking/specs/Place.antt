@@ -25,6 +25,12 @@ narrow left = 256 * (left / 65536) + min (left % 65536) 256
 unfoldable pub keysIn : List ℕ → ℕ → List ℕ → ℕ → ℕ → ℕ
 keysIn low lanes high blocks key = sum (λ b. keysBelow low lanes (narrow (key - 256 * getD high b 0))) blocks
 
+-- what counting before a key needs: lanes and blocks within their tables, and a key below some bound
+pub record Placeable (lanes blocks key bound : ℕ) : Type 0 where
+  pub lanes-most : lanes ≤ 256
+  pub blocks-most : blocks ≤ 256
+  pub small : key < bound
+
 -- the first candidate of a block whose key is r stands past the limit
 pub record Bar (low : List ℕ) (lanes : ℕ) (high : List ℕ) (blocks limit r : ℕ) : Type 0 where
   pub most : r ≤ never

@@ -1,14 +1,13 @@
 // Keys: 256 times the cost, and the number. In order of key is in order of cost, and of equal cost in order of number.
 ghost use mathlib.Core.Path.{_≡_};
-ghost use Prim.Native.Nat.{ℕ, _+_, _*_, _^_, _≤_, _<_};
-ghost use lib.ListN.{length, getD};
+ghost use Prim.Native.Nat.{_*_, _+_, _<_, _≤_};
 ghost use Rattle.atoms.specs.Sets.{size};
-ghost use Rattle.ranking.specs.Keys.{Extended, KeysWritten, TotalsWritten};
+ghost use Rattle.ranking.specs.Keys.{Extendable, Extended, KeysWritten, TotalsWritten, Writable};
 use atoms::AtomSet;
 
 // One member more: the candidates with it stand behind those without.
 fn extend(totals: &mut [u32], top: usize, weight: u32)
-    requires { ⌜ (top ≤ 128) × (top + top ≤ length (now totals)) × ((i : ℕ) → i < top → getD (now totals) i 0 + weight < 2 ^ 32) ⌝ }
+    requires { ⌜ Extendable top weight (now totals) ⌝ }
     ensures { λ _. ⌜ Extended top weight (now (totals .entry)) (now (totals .exit)) ⌝ }
 {
     let mut i: usize = 0;
@@ -27,7 +26,7 @@ fn wide(weight: u8) -> u32
 
 // The total weights of the candidates of at most eight members, from one on.
 fn write_totals<'a>(totals: &'a mut [u32], weights: &'a [u8; 16], from: usize, members: usize)
-    requires { ⌜ (members ≤ 8) × (from + members ≤ 16) × (2 ^ members ≤ length (now totals)) ⌝ }
+    requires { ⌜ Writable from members (now totals) ⌝ }
     ensures { λ _. ⌜ TotalsWritten (now (weights .entry)) from members (now (totals .entry)) (now (totals .exit)) ⌝ }
 {
     totals[0] = 0;
@@ -54,7 +53,7 @@ fn key(total: u32, candidate: u32) -> u32
 
 // The keys of the candidates of at most eight members, from one on. What stands past them is left.
 pub fn write_keys<'a>(keys: &'a mut [u32], weights: &'a [u8; 16], from: usize, members: usize)
-    requires { ⌜ (members ≤ 8) × (from + members ≤ 16) × (2 ^ members ≤ length (now keys)) ⌝ }
+    requires { ⌜ Writable from members (now keys) ⌝ }
     ensures { λ _. ⌜ KeysWritten (now (weights .entry)) from members (now (keys .entry)) (now (keys .exit)) ⌝ }
 {
     write_totals(keys, weights, from, members);

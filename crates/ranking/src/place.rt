@@ -3,7 +3,7 @@ ghost use mathlib.Core.Path.{_≡_};
 ghost use Prim.Native.Nat.{_*_, _-_, _<_, _≤_};
 ghost use lib.ListN.{length};
 ghost use Rattle.ranking.specs.Keys.{never};
-ghost use Rattle.ranking.specs.Place.{Bar, Half, below, keysBelow, keysIn, narrow};
+ghost use Rattle.ranking.specs.Place.{Bar, Half, Placeable, below, keysBelow, keysIn, narrow};
 use crate::NEVER;
 
 fn below(key: u32, bar: u32) -> u32
@@ -67,7 +67,7 @@ pub fn place<'a>(
     blocks: usize,
     key: u64,
 ) -> usize
-    requires { ⌜ (lanes ≤ 256) × ((blocks ≤ 256) × (key < 274877906944)) ⌝ }
+    requires { ⌜ Placeable lanes blocks key 274877906944 ⌝ }
     ensures { λ r. ⌜ r ≡ keysIn (now (low .entry)) lanes (now (high .entry)) blocks key ⌝ }
 {
     let mut count: u32 = 0;
@@ -112,7 +112,7 @@ pub fn bar<'a>(
     blocks: usize,
     limit: usize,
 ) -> u32
-    requires { ⌜ (lanes ≤ 256) × ((blocks ≤ 256) × (last < never)) ⌝ }
+    requires { ⌜ Placeable lanes blocks last never ⌝ }
     ensures { λ r. ⌜ Bar (now (low .entry)) lanes (now (high .entry)) blocks limit r ⌝ }
 {
     if place(low, lanes, high, blocks, 256 * (last as u64)) <= limit {

@@ -7,7 +7,7 @@ use borrow.Author.Tests.{eq-eqb, ne-eqb}
 use native.Mathlib.Decide.{ℕ-discrete}
 use native.Mathlib.Omega.{arith}
 use Rattle.atoms.specs.Atoms.{violation}
-use Rattle.records.specs.Levels.{level}
+use Rattle.records.specs.Levels.{level, levelCount}
 
 pub level-violation : (a : ℕ) → a ≡ violation → level a ≡ 8
 level-violation a e = ap (λ (b : Bool). cond b 8 (a / 8)) (eq-eqb a violation e)
@@ -33,9 +33,9 @@ pub level-down : (a : ℕ) → a < violation → (8 * level a ≤ a) × (a < 8 *
 level-down a l = let e : level a ≡ a / 8 = level-other a (λ i. omega arith) in (omega arith, omega arith)
 
 -- the 64 atoms are on levels 0 to 8
-pub level-atom : (a : ℕ) → a ≤ violation → level a < 9
+pub level-atom : (a : ℕ) → a ≤ violation → level a < levelCount
 level-atom a l = go (level-cases a)
   where
-    go : ((a ≡ violation) × (level a ≡ 8)) ⊎ ((a ≡ violation → ⊥) × (level a ≡ a / 8)) → level a < 9
+    go : ((a ≡ violation) × (level a ≡ 8)) ⊎ ((a ≡ violation → ⊥) × (level a ≡ a / 8)) → level a < levelCount
     go (inl (_, e)) = omega arith
     go (inr (_, e)) = omega arith

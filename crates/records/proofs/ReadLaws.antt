@@ -6,8 +6,8 @@ use Prim.Native.Nat.{_*_, _+_, _-_, _<_, _^_, _≤_, ℕ}
 use lib.ListN.{drop, length, length-drop, length-take, take}
 use borrow.Author.Tests.{le-leb}
 use native.Mathlib.Omega.{arith}
-use Rattle.atoms.specs.LittleEndian.{Bytes, littleEndian}
-use Rattle.atoms.proofs.ByteLaws.{bytes-drop, bytes-take, littleEndian-lt}
+use Rattle.encoding.proofs.ByteLaws.{bytes-drop, bytes-take, littleEndian-lt}
+use Rattle.encoding.specs.LittleEndian.{Bytes, littleEndian}
 use Rattle.records.specs.Records.{blank, readPart, readRecord, recordAt}
 use Rattle.records.specs.Theorems.{Sized}
 

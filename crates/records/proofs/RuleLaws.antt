@@ -3,13 +3,15 @@ use mathlib.Core.Path.{_∙_, _≡_, refl, subst, sym}
 use mathlib.Core.Logic.{_↔_, _⊎_, inl, inr}
 use mathlib.Core.Bool.{Bool, cond, false, true, true≢false}
 use mathlib.Core.List.{List, [], _∷_}
-use Prim.Native.Nat.{_+_, _<_, _≤_, suc, zero, ℕ}
+use Prim.Native.Nat.{_*_, _+_, _<_, _≤_, suc, zero, ℕ}
+use lib.ListN.{length}
 use lib.Dec.{eqb}
 use native.Mathlib.Nat.{eq-or-lt-of-le}
 use native.Mathlib.Omega.{arith}
-use Rattle.atoms.proofs.TestLaws.{eqb-true, true-eqb}
-use Rattle.rules.specs.Rules.{Every, Rule}
-use Rattle.records.specs.Records.{Record, ofKind, recordAt, recordsFrom, recordsOf, rulesOf, wholeRecords}
+use Rattle.lists.specs.Lists.{Every}
+use Rattle.validation.proofs.TestLaws.{eqb-true, true-eqb}
+use Rattle.rules.specs.Rules.{Rule}
+use Rattle.records.specs.Records.{Record, ofKind, recordAt, recordsBefore, recordsFrom, recordsOf, rulesOf, wholeRecords}
 
 -- what holds of each record holds of the record at each place
 every-record : (P : Record → Type 0) (bytes : List ℕ) (k n : ℕ)
@@ -46,3 +48,13 @@ every-rule k bytes P =
     let i = every-kind P k (recordsOf bytes) in
     let r = every-record (λ d. d .kind ≡ k → P (d .rule)) bytes 0 (wholeRecords bytes) in
     (λ h j l. r .0 (i .0 h) j (omega arith) (omega arith), λ f. i .1 (r .1 (λ j _ l. f j (omega arith))))
+
+-- a record is there where its last byte is
+pub every-whole : (k : ℕ) (bytes : List ℕ) (P : Rule → Type 0)
+    → Every P (rulesOf k bytes) ↔ ((j : ℕ) → 18 * j + 18 ≤ length bytes → recordAt bytes j .kind ≡ k → P (recordAt bytes j .rule))
+every-whole k bytes P =
+    let i = every-rule k bytes P in
+    (λ h j l. i .0 h j (omega arith), λ f. i .1 (λ j l. f j (omega arith)))
+
+pub every-before : (bytes : List ℕ) (k : ℕ) (P : Record → Type 0) → Every P (recordsBefore bytes k) ↔ ((j : ℕ) → j < k → P (recordAt bytes j))
+every-before bytes k P = let i = every-record P bytes 0 k in (λ h j l. i .0 h j (omega arith) (omega arith), λ f. i .1 (λ j _ l. f j (omega arith)))

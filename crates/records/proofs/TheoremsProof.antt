@@ -1,10 +1,23 @@
 -- The theorems of specs/Theorems. Assumes nothing.
 use mathlib.Core.Path.{refl}
 use Rattle.records.specs.Theorems.{Theorems}
-use Rattle.records.proofs.LevelLaws.{level-down}
-use Rattle.records.proofs.RuleLaws.{every-rule}
+use Rattle.records.proofs.LevelLaws.{level-atom, level-down}
+use Rattle.records.proofs.PutLaws.{as-long, others, written-there}
+use Rattle.records.proofs.RuleLaws.{every-before, every-whole}
 use Rattle.records.proofs.TypeLaws.{record-one}
 use Rattle.records.proofs.WritingLaws.{written}
 
 pub theorems : Theorems
-theorems = record { levels = level-down; top = refl; written = written; listed = every-rule; one-to-one = record-one }
+theorems = record {
+  levels = level-down;
+  top = refl;
+  atoms = level-atom;
+  written = written;
+  written-there = written-there;
+  others = λ bytes k j l d n. others bytes k l d j n;
+  as-long = as-long;
+  listed = every-whole;
+  earlier = every-before;
+  policies = λ bytes. (refl, refl);
+  one-to-one = record-one;
+}

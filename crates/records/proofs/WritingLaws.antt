@@ -1,25 +1,21 @@
 -- What is written is what is read. Assumes nothing.
 use mathlib.Core.Path.{_∙_, _≡_, ap, ap₂, refl}
 use mathlib.Core.List.{List, [], _++_, _∷_}
-use Prim.Native.Nat.{_*_, _+_, _/_, _<_, _^_, suc, zero, ℕ}
+use Prim.Native.Nat.{_*_, _+_, suc, zero, ℕ}
 use lib.ListN.{drop, length, length-append, take}
 use lib.Seq.{drop-append-add}
 use native.Mathlib.Omega.{arith}
-use Rattle.atoms.specs.LittleEndian.{littleEndian}
-use Rattle.rules.specs.Rules.{Every}
+use Rattle.encoding.specs.LittleEndian.{bytesOf}
+use Rattle.encoding.proofs.ByteLaws.{read-back}
+use Rattle.lists.specs.Lists.{Every}
 use Rattle.records.specs.Records.{Record, readRecord, recordAt, recordsFrom, recordsOf, wholeRecords}
 use Rattle.records.specs.Theorems.{Sized}
-use Rattle.records.specs.Writing.{bytesOf, writeRecord, writeRecords}
-
-littleEndian-bytesOf : (n s : ℕ) → s < 256 ^ n → littleEndian (bytesOf n s) ≡ s
-unfolding littleEndian bytesOf
-littleEndian-bytesOf zero s l = omega arith
-littleEndian-bytesOf (suc n) s l = omega (arith, littleEndian-bytesOf n (s / 256) (omega arith))
+use Rattle.records.specs.Writing.{writeRecord, writeRecords}
 
 -- one record, whatever follows it
-read-written : (d : Record) → Sized d → (bs : List ℕ) → recordAt (writeRecord d ++ bs) 0 ≡ d
+pub read-written : (d : Record) → Sized d → (bs : List ℕ) → recordAt (writeRecord d ++ bs) 0 ≡ d
 unfolding readRecord writeRecord bytesOf
-read-written d h bs = rw (littleEndian-bytesOf 8 (d .rule .positive) (h .positive), littleEndian-bytesOf 8 (d .rule .negated) (h .negated))
+read-written d h bs = rw (read-back 8 (d .rule .positive) (h .positive), read-back 8 (d .rule .negated) (h .negated))
 
 -- a record before makes each the next one
 record-next : (d : Record) (bs : List ℕ) (k : ℕ) → recordAt (writeRecord d ++ bs) (suc k) ≡ recordAt bs k

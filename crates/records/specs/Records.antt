@@ -4,7 +4,7 @@ use mathlib.Core.List.{List, [], _∷_}
 use Prim.Native.Nat.{_*_, _/_, suc, zero, ℕ}
 use lib.Dec.{eqb, leb}
 use lib.ListN.{drop, getD, length, take}
-use Rattle.atoms.specs.LittleEndian.{littleEndian}
+use Rattle.encoding.specs.LittleEndian.{littleEndian}
 use Rattle.atoms.specs.Sets.{empty}
 use Rattle.rules.specs.Rules.{Rule}
 
@@ -52,6 +52,10 @@ wholeRecords bytes = length bytes / 18
 unfoldable pub recordsFrom : List ℕ → ℕ → ℕ → List Record
 recordsFrom bytes k zero = []
 recordsFrom bytes k (suc n) = recordAt bytes k ∷ recordsFrom bytes (suc k) n
+
+-- the records before record k, in order
+abbrev pub recordsBefore : List ℕ → ℕ → List Record
+recordsBefore bytes k = recordsFrom bytes 0 k
 
 -- all whole records, in order
 unfoldable pub recordsOf : List ℕ → List Record

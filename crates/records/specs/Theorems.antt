@@ -1,14 +1,18 @@
--- The theorems of records: levels; what is written is what is read; a policy's rules are those of all its records of that kind. Assumes nothing.
+-- The theorems of records: levels; what is written is what is read; a policy's rules are those of all its records of that kind; what a round reads of a
+-- policy. Assumes nothing.
 use mathlib.Core.Path.{_≡_}
-use mathlib.Core.Logic.{_↔_}
+use mathlib.Core.Logic.{_↔_, _≢_}
 use mathlib.Core.List.{List}
 use Prim.Native.Nat.{_*_, _+_, _<_, _^_, _≤_, ℕ}
+use lib.ListN.{length}
+use Rattle.lists.specs.Lists.{Every}
 use Rattle.atoms.specs.Atoms.{violation}
-use Rattle.rules.specs.Rules.{Every, Rule}
-use Rattle.records.specs.Levels.{level}
-use Rattle.records.specs.Records.{Record, recordAt, recordsOf, rulesOf, wholeRecords}
+use Rattle.rules.specs.Rules.{Rule}
+use Rattle.records.specs.Levels.{level, levelCount}
+use Rattle.records.specs.Policies.{policyOf}
+use Rattle.records.specs.Records.{Record, recordAt, recordsBefore, recordsOf, rulesOf}
 use Rattle.records.specs.Types.{recordOf}
-use Rattle.records.specs.Writing.{writeRecords}
+use Rattle.records.specs.Writing.{withRecord, writeRecords}
 use Rattle.records.specs.declared.Record as program
 
 -- the sets of a record are sets of atoms: 64-bit numbers
@@ -20,10 +24,20 @@ pub record Theorems : Type 1 where
   -- "The level of atoms 0 to 62 is the number divided by 8, rounded down; of 63 it is 8."
   pub levels : (a : ℕ) → a < violation → (8 * level a ≤ a) × (a < 8 * level a + 8)
   pub top : level violation ≡ 8
+  -- each atom is on one of the levels below `levelCount`
+  pub atoms : (a : ℕ) → a ≤ violation → level a < levelCount
   -- the records that are read are those that were written, in order and none else
   pub written : (ds : List Record) → Every Sized ds → recordsOf (writeRecords ds) ≡ ds
+  -- record k is the one that was written there, every other one is what it was, and no byte comes or goes
+  pub written-there : (bytes : List ℕ) (k : ℕ) → 18 * k + 18 ≤ length bytes → (d : Record) → Sized d → recordAt (withRecord bytes k d) k ≡ d
+  pub others : (bytes : List ℕ) (k j : ℕ) → 18 * k + 18 ≤ length bytes → (d : Record) → j ≢ k → recordAt (withRecord bytes k d) j ≡ recordAt bytes j
+  pub as-long : (bytes : List ℕ) (k : ℕ) → 18 * k + 18 ≤ length bytes → (d : Record) → length (withRecord bytes k d) ≡ length bytes
   -- the rules of kind k are those of all records of that kind, and no others: the same holds of each
   pub listed : (k : ℕ) (bytes : List ℕ) (P : Rule → Type 0)
-      → Every P (rulesOf k bytes) ↔ ((j : ℕ) → j < wholeRecords bytes → recordAt bytes j .kind ≡ k → P (recordAt bytes j .rule))
+      → Every P (rulesOf k bytes) ↔ ((j : ℕ) → 18 * j + 18 ≤ length bytes → recordAt bytes j .kind ≡ k → P (recordAt bytes j .rule))
+  -- the records before record k
+  pub earlier : (bytes : List ℕ) (k : ℕ) (P : Record → Type 0) → Every P (recordsBefore bytes k) ↔ ((j : ℕ) → j < k → P (recordAt bytes j))
+  -- what a round reads of a policy: the rules of all its records of kind 1, and of all its records of kind 2
+  pub policies : (bytes : List ℕ) → (policyOf bytes .access ≡ rulesOf 1 bytes) × (policyOf bytes .disclosure ≡ rulesOf 2 bytes)
   -- what the program's record means is one-to-one
   pub one-to-one : (x y : program.Record) → recordOf x ≡ recordOf y → x ≡ y

@@ -1,16 +1,17 @@
 -- Document 01, "Atoms and records": records as their writer writes them. Assumes nothing.
 use mathlib.Core.List.{List, [], _++_, _∷_}
-use Prim.Native.Nat.{_%_, _/_, suc, zero, ℕ}
-use Rattle.atoms.specs.Sets.{empty, single, union}
+use Prim.Native.Nat.{_*_, _+_, ℕ}
+use lib.ListN.{drop, take}
+use Rattle.encoding.specs.LittleEndian.{bytesOf}
+use Rattle.atoms.specs.Sets.{empty, setOf}
 use Rattle.records.specs.Records.{Record, accessKind, disclosureKind}
-
--- the n lowest bytes of a number, the lowest first
-unfoldable pub bytesOf : ℕ → ℕ → List ℕ
-bytesOf zero s = []
-bytesOf (suc n) s = s % 256 ∷ bytesOf n (s / 256)
 
 unfoldable pub writeRecord : Record → List ℕ
 writeRecord d = d .kind ∷ d .rule .head ∷ (bytesOf 8 (d .rule .positive) ++ bytesOf 8 (d .rule .negated))
+
+-- "record k is the part that begins at byte 18 times k": the same bytes, with this record there
+unfoldable pub withRecord : List ℕ → ℕ → Record → List ℕ
+withRecord bytes k d = take (18 * k) bytes ++ (writeRecord d ++ drop (18 * k + 18) bytes)
 
 -- a policy is its records, "no header"
 unfoldable pub writeRecords : List Record → List ℕ
@@ -18,10 +19,6 @@ writeRecords [] = []
 writeRecords (d ∷ ds) = writeRecord d ++ writeRecords ds
 
 -- ---- atoms by number
-
-unfoldable pub setOf : List ℕ → ℕ
-setOf [] = empty
-setOf (k ∷ ks) = union (single k) (setOf ks)
 
 -- an access record: "16 if 2 and not 3" is `16 if 2 ∷ [] not (3 ∷ [])`
 infix 10 _if_not_

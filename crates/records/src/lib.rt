@@ -1,13 +1,14 @@
-// What a policy's bytes say: records and levels (document 01, "Atoms and records").
+// What a policy's bytes say: records, read and written, and levels (document 01, "Atoms and records").
 ghost use mathlib.Core.Path.{_≡_};
 ghost use Prim.Native.Nat.{_*_, _+_, _<_, _≤_};
 ghost use lib.ListN.{length};
-ghost use Rattle.atoms.specs.LittleEndian.{wordOf};
+ghost use Rattle.encoding.specs.LittleEndian.{wordOf};
 ghost use Rattle.records.specs.Records.{readPart, recordAt};
 ghost use Rattle.records.specs.Types.{recordOf};
 use atoms::AtomSet;
 
 pub mod level;
+pub mod write;
 
 pub const ACCESS: u8 = 1;
 

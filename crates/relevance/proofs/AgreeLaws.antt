@@ -1,14 +1,15 @@
 -- Leaving out rules changes nothing that the others bear on: each of the two closures, as far as it counts, lies within the other. Assumes nothing.
 use mathlib.Core.List.{List, [], _∷_}
 use Prim.Native.Nat.{_≤_, ℕ}
+use Rattle.lists.proofs.ListLaws.{every-imp, every-imp₂}
+use Rattle.lists.specs.Lists.{Every}
 use Rattle.atoms.specs.Atoms.{violation}
 use Rattle.atoms.specs.Sets.{Member, Subset}
 use Rattle.rules.specs.LevelByLevel.{levelByLevel, settle}
 use Rattle.rules.specs.Model.{closure, consequences}
-use Rattle.rules.specs.Rules.{Every, Headed, Rule}
+use Rattle.rules.specs.Rules.{Headed, Rule}
 use Rattle.rules.specs.Stable.{Closed, Unstruck, reduct}
 use Rattle.rules.proofs.LeastLaws.{closure-closed, closure-within}
-use Rattle.rules.proofs.ListLaws.{every-imp, every-imp₂}
 use Rattle.rules.proofs.ReductLaws.{LeftRespects, Respects, reduct-every, reduct-headed}
 use Rattle.relevance.specs.Relevance.{Follows, SameOn, SameWhere, kept, keptLevels}
 use Rattle.relevance.proofs.KeptLaws.{kept-every}

@@ -6,18 +6,19 @@ use Prim.Native.Nat.{_+_, _-_, _<_, _≤_, suc, zero, ℕ}
 use lib.Dec.{eqb}
 use lib.ListN.{getD}
 use native.Mathlib.Omega.{arith}
+use Rattle.lists.specs.Lists.{Every}
 use Rattle.atoms.specs.Atoms.{violation}
 use Rattle.atoms.specs.Sets.{Member, single}
 use Rattle.atoms.proofs.SetLaws.{same-bit, single-own, union-left, union-right}
 use Rattle.rules.specs.LevelByLevel.{levelByLevel}
-use Rattle.rules.specs.Rules.{Every, Headed, Rule}
-use Rattle.evaluation.specs.Arrays.{Ordered, Placed, evaluated, levelsIn, ruleAt, rulesIn}
-use Rattle.evaluation.proofs.HeadLaws.{one-low}
-use Rattle.evaluation.specs.Unlocking.{grants}
+use Rattle.rules.specs.Rules.{Headed, Rule}
+use Rattle.rules.specs.Unlocking.{grants}
+use Rattle.arrays.specs.Arrays.{Ordered, Placed, evaluated, levelsIn, ruleAt, rulesIn}
+use Rattle.arrays.proofs.HeadLaws.{one-low}
+use Rattle.arrays.proofs.StartLaws.{start-le}
 use Rattle.relevance.specs.Places.{KeptIn, SameAnswer}
 use Rattle.relevance.specs.Relevance.{Follows, Relevant, SameOn, SameWhere, keptLevels}
 use Rattle.relevance.proofs.AgreeLaws.{Bears, follows-bears-low, levels-agree, levels-agree-on}
-use Rattle.relevance.proofs.StartLaws.{start-fits, start-last}
 
 module _ (heads positive negated : List ℕ) (P : Rule → Type 0) where
   -- what holds of each rule holds of the one at each place, and the other way round
@@ -35,50 +36,51 @@ module _ (heads positive negated : List ℕ) (P : Rule → Type 0) where
   at-every (suc m) k h = (h k (omega arith), at-every m (suc k) (λ i l. h i (omega arith)))
 
   -- and of each rule of each level
-  at-levels : (starts : List ℕ) → Ordered starts → ((i : ℕ) → i < getD starts 9 0 → P (ruleAt heads positive negated i))
-      → (m l : ℕ) → l + m ≤ 9 → Every (Every P) (levelsIn heads positive negated starts l m)
+  at-levels : (levels : ℕ) (starts : List ℕ) → Ordered levels starts → ((i : ℕ) → i < getD starts levels 0 → P (ruleAt heads positive negated i))
+      → (m l : ℕ) → l + m ≤ levels → Every (Every P) (levelsIn heads positive negated starts l m)
   unfolding levelsIn
-  at-levels starts o h zero l i = tt
-  at-levels starts o h (suc m) l i = (
+  at-levels levels starts o h zero l i = tt
+  at-levels levels starts o h (suc m) l i = (
     at-every (getD starts (suc l) 0 - getD starts l 0) (getD starts l 0)
-        (λ k j. h k (omega (arith, o l (omega arith) .0, start-last starts o (suc l) (omega arith)))),
-    at-levels starts o h m (suc l) (omega arith),
+        (λ k j. h k (omega (arith, o .rising l (omega arith), start-le levels starts o (suc l) levels (omega arith) (omega arith)))),
+    at-levels levels starts o h m (suc l) (omega arith),
   )
 
-module _ (heads positive negated starts : List ℕ) (o : Placed heads starts) (R : ℕ) where
+module _ (levels : ℕ) (heads positive negated starts : List ℕ) (o : Placed levels heads starts) (R : ℕ) where
   abbrev rules : List Rule
-  rules = rulesIn heads positive negated 0 (getD starts 9 0)
+  rules = rulesIn heads positive negated 0 (getD starts levels 0)
 
-  abbrev levels : List (List Rule)
-  levels = levelsIn heads positive negated starts 0 9
+  abbrev laid : List (List Rule)
+  laid = levelsIn heads positive negated starts 0 levels
 
-  headed : (i : ℕ) → i < getD starts 9 0 → Headed (ruleAt heads positive negated i)
-  headed i l = one-low (getD heads i 0) (o .singles i (omega (arith, start-fits starts (o .ordered) 9 (omega arith))))
+  headed : (i : ℕ) → i < getD starts levels 0 → Headed (ruleAt heads positive negated i)
+  headed i l = one-low (getD heads i 0) (o .singles i (omega (arith, o .ordered .fits)))
 
-  follows : Every (Follows R) rules → (i : ℕ) → i < getD starts 9 0 → Follows R (ruleAt heads positive negated i)
+  follows : Every (Follows R) rules → (i : ℕ) → i < getD starts levels 0 → Follows R (ruleAt heads positive negated i)
   follows f i l =
-      subst (λ (x : ℕ). Follows R (ruleAt heads positive negated x)) (omega arith) (every-at heads positive negated (Follows R) (getD starts 9 0) 0 f i l)
+      subst (λ (x : ℕ). Follows R (ruleAt heads positive negated x)) (omega arith) (every-at heads positive negated (Follows R) (getD starts levels 0) 0 f i l)
 
   -- what holds of each rule holds of each of each level
-  of-levels : (P : Rule → Type 0) → ((i : ℕ) → i < getD starts 9 0 → P (ruleAt heads positive negated i)) → Every (Every P) levels
-  of-levels P h = at-levels heads positive negated P starts (o .ordered) h 9 0 (omega arith)
+  of-levels : (P : Rule → Type 0) → ((i : ℕ) → i < getD starts levels 0 → P (ruleAt heads positive negated i)) → Every (Every P) laid
+  of-levels P h = at-levels heads positive negated P levels starts (o .ordered) h levels 0 (omega arith)
 
-  pub arrays-agree : (h p n s : List ℕ) → Every (Follows R) (rulesIn heads positive negated 0 (getD starts 9 0)) → KeptIn R heads positive negated starts h p n s
-      → (C : ℕ) → SameOn R (evaluated heads positive negated starts C) (evaluated h p n s C)
+  pub arrays-agree : (h p n s : List ℕ) → Every (Follows R) (rulesIn heads positive negated 0 (getD starts levels 0))
+      → KeptIn levels R heads positive negated starts h p n s
+      → (C : ℕ) → SameOn R (evaluated levels heads positive negated starts C) (evaluated levels h p n s C)
   arrays-agree h p n s f k C =
-      subst (λ (ls : List (List Rule)). SameOn R (levelByLevel levels C) (levelByLevel ls C)) (sym (k .levels))
-      (levels-agree-on R levels (of-levels Headed headed) (of-levels (Follows R) (follows f)) C C (λ k _. (λ m. m, λ m. m)))
+      subst (λ (ls : List (List Rule)). SameOn R (levelByLevel laid C) (levelByLevel ls C)) (sym (k .rules))
+      (levels-agree-on R laid (of-levels Headed headed) (of-levels (Follows R) (follows f)) C C (λ k _. (λ m. m, λ m. m)))
 
   -- ---- the answer
 
-  module _ (request : ℕ) (relevant : Relevant (rulesIn heads positive negated 0 (getD starts 9 0)) request R) where
+  module _ (request : ℕ) (relevant : Relevant (rulesIn heads positive negated 0 (getD starts levels 0)) request R) where
     -- what counts: R, and every number that is no atom
     abbrev Counts : ℕ → Type 0
     Counts k = k ≤ violation → Member k R
 
-    agree : (C : ℕ) → SameWhere Counts (levelByLevel levels C) (levelByLevel (keptLevels R levels) C)
+    agree : (C : ℕ) → SameWhere Counts (levelByLevel laid C) (levelByLevel (keptLevels R laid) C)
     agree C =
-        levels-agree Counts R levels (of-levels Headed headed)
+        levels-agree Counts R laid (of-levels Headed headed)
         (of-levels (Bears Counts R) (λ i l. follows-bears-low R (ruleAt heads positive negated i) (headed i l) (follows (relevant .one .follows) i l)))
         C C (λ k _. (λ m. m, λ m. m))
 
@@ -88,15 +90,16 @@ module _ (heads positive negated starts : List ℕ) (o : Placed heads starts) (R
     counts-violation : Counts violation
     counts-violation l = relevant .one .holds violation (union-right (single request) (single violation) violation (single-own violation l))
 
-    pub same-answer : (h p n s : List ℕ) → KeptIn R heads positive negated starts h p n s → SameAnswer request heads positive negated starts h p n s
+    pub same-answer : (h p n s : List ℕ)
+        → KeptIn levels R heads positive negated starts h p n s → SameAnswer levels request heads positive negated starts h p n s
     same-answer h p n s k = record {
       placed = k .placed;
       same = λ C.
-          ap (λ (ls : List (List Rule)). grants request (levelByLevel ls C)) (k .levels)
+          ap (λ (ls : List (List Rule)). grants request (levelByLevel ls C)) (k .rules)
           ∙ sym (ap₂ (λ (x y : ℕ). eqb x 1 && not (eqb y 1))
           (same-bit _ _ request (agree C request counts-request .0) (agree C request counts-request .1))
           (same-bit _ _ violation (agree C violation counts-violation .0) (agree C violation counts-violation .1)));
       set = R;
       relevant = relevant;
-      levels = k .levels;
+      rules = k .rules;
     }

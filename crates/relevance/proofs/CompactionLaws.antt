@@ -4,20 +4,20 @@ use mathlib.Core.Logic.{_≢_}
 use mathlib.Core.Bool.{Bool, cond, false, true}
 use mathlib.Core.List.{List, _∷_}
 use Prim.Native.Nat.{_+_, _-_, _<_, _≤_, suc, zero, ℕ}
-use lib.ListN.{getD, length, length-set, set}
+use lib.ListN.{getD, length, set}
 use lib.Seq.{getD-set-other, getD-set-same}
 use native.Mathlib.Decide.{ℕ-discrete}
 use native.Mathlib.Omega.{arith}
 use borrow.Author.Tests.{eqb-false}
+use Rattle.validation.proofs.TestLaws.{eqb-true}
 use Rattle.atoms.specs.Sets.{Member, member}
-use Rattle.atoms.proofs.TestLaws.{eqb-true}
 use Rattle.rules.specs.Rules.{Rule}
-use Rattle.evaluation.specs.Arrays.{Heads, Ordered, Placed, atomOf, levelsIn, ruleAt, rulesIn}
-use Rattle.evaluation.proofs.HeadLaws.{heads-put}
+use Rattle.arrays.specs.Arrays.{Heads, Ordered, Placed, Room, atomOf, levelsIn, ruleAt, rulesIn}
+use Rattle.arrays.proofs.HeadLaws.{room-put}
+use Rattle.arrays.proofs.StartLaws.{start-le}
 use Rattle.relevance.specs.Places.{KeptIn, StartsMoved, room, roomBefore}
 use Rattle.relevance.specs.Relevance.{kept, keptLevels}
 use Rattle.relevance.proofs.PlaceLaws.{before-le, before-lt, before-most, before-next, before-step, room-in, room-out}
-use Rattle.relevance.proofs.StartLaws.{start-fits, start-last}
 
 -- the rules at places 0 to k whose heads are in R are in the arrays h, p, n, each at its place
 abbrev pub Put : ℕ → List ℕ → List ℕ → List ℕ → List ℕ → List ℕ → List ℕ → ℕ → Type 0
@@ -93,77 +93,79 @@ module _ (R : ℕ) (heads positive negated h p n : List ℕ) where
             let f : roomBefore R heads (suc a) ≡ roomBefore R heads a = omega (arith, before-next R heads a, room-out R (getD heads a 0) (eqb-false _ _ t)) in
             ap₂ (λ (x y : ℕ). rulesIn h p n x (roomBefore R heads y - x)) (sym f) e ∙ ih
 
-  -- each level has its rules that are left
-  levels : (starts moved : List ℕ) → Ordered starts → StartsMoved R heads starts moved → Put R heads positive negated h p n (getD starts 9 0)
-      → (m l : ℕ) → l + m ≤ 9 → levelsIn h p n moved l m ≡ keptLevels R (levelsIn heads positive negated starts l m)
-  unfolding levelsIn keptLevels
-  levels starts moved o s put zero l i = refl
-  levels starts moved o s put (suc m) l i =
-      ap₂ (λ (x : List Rule) (y : List (List Rule)). x ∷ y) here (levels starts moved o s put m (suc l) (omega arith))
-    where
-      from : ℕ
-      from = getD starts l 0
+  module _ (levels : ℕ) (starts moved : List ℕ) (s : StartsMoved levels R heads starts moved) where
+    -- each level has its rules that are left
+    each-level : Ordered levels starts → Put R heads positive negated h p n (getD starts levels 0)
+        → (m l : ℕ) → l + m ≤ levels → levelsIn h p n moved l m ≡ keptLevels R (levelsIn heads positive negated starts l m)
+    unfolding levelsIn keptLevels
+    each-level o put zero l i = refl
+    each-level o put (suc m) l i = ap₂ (λ (x : List Rule) (y : List (List Rule)). x ∷ y) here (each-level o put m (suc l) (omega arith))
+      where
+        from : ℕ
+        from = getD starts l 0
 
-      to : ℕ
-      to = getD starts (suc l) 0
+        to : ℕ
+        to = getD starts (suc l) 0
 
-      here : rulesIn h p n (getD moved l 0) (getD moved (suc l) 0 - getD moved l 0) ≡ kept R (rulesIn heads positive negated from (to - from))
-      here =
-          let e : from + (to - from) ≡ to = omega (arith, o l (omega arith) .0) in
-          ap₂ (λ (x y : ℕ). rulesIn h p n x (y - x)) (s .begins l (omega arith)) (s .begins (suc l) (omega arith) ∙ ap (roomBefore R heads) (sym e))
-          ∙ places (getD starts 9 0) put (to - from) from (omega (arith, start-last starts o (suc l) (omega arith)))
+        here : rulesIn h p n (getD moved l 0) (getD moved (suc l) 0 - getD moved l 0) ≡ kept R (rulesIn heads positive negated from (to - from))
+        here =
+            let e : from + (to - from) ≡ to = omega (arith, o .rising l (omega arith)) in
+            ap₂ (λ (x y : ℕ). rulesIn h p n x (y - x)) (s .begins l (omega arith)) (s .begins (suc l) (omega arith) ∙ ap (roomBefore R heads) (sym e))
+            ∙ places (getD starts levels 0) put (to - from) from (omega (arith, start-le levels starts o (suc l) levels (omega arith) (omega arith)))
 
-  pub kept-in : (starts moved : List ℕ) → Placed heads starts → StartsMoved R heads starts moved → Heads h
-      → Put R heads positive negated h p n (getD starts 9 0) → KeptIn R heads positive negated starts h p n moved
-  kept-in starts moved o s singles put = record {
-    placed = record { ordered = ordered; singles = singles };
-    levels = levels starts moved (o .ordered) s put 9 0 (omega arith);
-  }
-    where
-      ordered : Ordered moved
-      ordered l i =
-          let a = s .begins l (omega arith) in
-          let b = s .begins (suc l) (omega arith) in
-          let c = before-le R heads (getD starts l 0) (getD starts (suc l) 0) (o .ordered l i .0) in
-          let d = before-most R heads (getD starts (suc l) 0) in
-          let e = o .ordered l i .1 in
-          (omega arith, omega arith)
+    kept-in : Placed levels heads starts → Heads h → Put R heads positive negated h p n (getD starts levels 0)
+        → KeptIn levels R heads positive negated starts h p n moved
+    kept-in o singles put = record {
+      placed = record { ordered = ordered; singles = singles };
+      rules = each-level (o .ordered) put levels 0 (omega arith);
+    }
+      where
+        ordered : Ordered levels moved
+        ordered = record {
+          rising = λ l i.
+              let a = s .begins l (omega arith) in
+              let b = s .begins (suc l) (omega arith) in
+              let c = before-le R heads (getD starts l 0) (getD starts (suc l) 0) (o .ordered .rising l i) in
+              omega arith;
+          fits = omega (arith, s .begins levels (omega arith), before-most R heads (getD starts levels 0), o .ordered .fits);
+        }
 
 -- ---- the loop: the rules before place k are put, and what stands at k goes to `place`
 
-pub record Compacting (R : ℕ) (heads positive negated starts h p n moved : List ℕ) (place k : ℕ) : Type 0 where
-  pub wide : (length h ≡ 128) × ((length p ≡ 128) × (length n ≡ 128))
-  pub low : k ≤ getD starts 9 0
+pub record Compacting (levels R : ℕ) (heads positive negated starts h p n moved : List ℕ) (place k : ℕ) : Type 0 where
+  pub low : k ≤ getD starts levels 0
   pub goes : place ≡ roomBefore R heads k
-  pub singles : Heads h
-  pub begins : StartsMoved R heads starts moved
+  pub wide : Room h p n
+  pub begins : StartsMoved levels R heads starts moved
   pub put : Put R heads positive negated h p n k
 
-module _ (R : ℕ) (heads positive negated starts h p n moved : List ℕ) (place k : ℕ) (o : Placed heads starts)
-    (s : Compacting R heads positive negated starts h p n moved place k) where
-  pub compacting-room : k < getD starts 9 0 → (place < 128) × (k < 128)
+module _ (levels R : ℕ) (heads positive negated starts h p n moved : List ℕ) (place k : ℕ) (o : Placed levels heads starts)
+    (s : Compacting levels R heads positive negated starts h p n moved place k) where
+  pub compacting-room : k < getD starts levels 0 → (place < 128) × (k < 128)
   compacting-room l =
       let a = s .goes in
       let b = before-most R heads k in
-      let c = start-fits starts (o .ordered) 9 (omega arith) in
+      let c = o .ordered .fits in
       (omega arith, omega arith)
 
-  pub compacting-next : k < getD starts 9 0 → (x : ℕ) → x ≡ place + room R (getD heads k 0)
-      → Compacting R heads positive negated starts (set h place (getD heads k 0)) (set p place (getD positive k 0)) (set n place (getD negated k 0)) moved x (k + 1)
+  pub compacting-next : k < getD starts levels 0 → (x : ℕ) → x ≡ place + room R (getD heads k 0)
+      → Compacting levels R heads positive negated starts (set h place (getD heads k 0)) (set p place (getD positive k 0)) (set n place (getD negated k 0))
+      moved x (k + 1)
   compacting-next l x e =
       let w = s .wide in
       let r = compacting-room l in
       record {
-        wide = (simp length-set (w .0), (simp length-set (w .1 .0), simp length-set (w .1 .1)));
         low = omega arith;
         goes = before-step R heads k place x (s .goes) e;
-        singles = heads-put h place (getD heads k 0) (omega arith) (o .singles k (r .1)) (s .singles);
+        wide = room-put h p n place (getD heads k 0) (getD positive k 0) (getD negated k 0) (r .0) (o .singles k (r .1)) w;
         begins = s .begins;
-        put = put-one R heads positive negated h p n k place (s .goes) (omega arith) (omega arith) (omega arith) (s .put);
+        put =
+            put-one R heads positive negated h p n k place (s .goes) (omega (arith, w .head-places)) (omega (arith, w .positive-places))
+            (omega (arith, w .negated-places)) (s .put);
       }
 
-  pub compacting-done : getD starts 9 0 ≤ k → KeptIn R heads positive negated starts h p n moved
+  pub compacting-done : getD starts levels 0 ≤ k → KeptIn levels R heads positive negated starts h p n moved
   compacting-done l =
       let low = s .low in
-      let e : k ≡ getD starts 9 0 = omega arith in
-      kept-in R heads positive negated h p n starts moved o (s .begins) (s .singles) (subst (Put R heads positive negated h p n) e (s .put))
+      let e : k ≡ getD starts levels 0 = omega arith in
+      kept-in R heads positive negated h p n levels starts moved (s .begins) o (s .wide .singles) (subst (Put R heads positive negated h p n) e (s .put))

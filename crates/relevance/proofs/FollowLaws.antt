@@ -3,13 +3,13 @@ use mathlib.Core.Path.{_≡_, subst, sym}
 use mathlib.Core.List.{List, [], _∷_}
 use Prim.Native.Nat.{_+_, _-_, _<_, _^_, _≤_, ℕ}
 use native.Mathlib.Omega.{arith}
+use Rattle.lists.proofs.ListLaws.{every-imp, every-imp₂}
 use Rattle.atoms.specs.Sets.{Member, Subset, size, union}
 use Rattle.atoms.proofs.SetLaws.{union-least, union-left, union-right}
 use Rattle.atoms.proofs.SizeLaws.{size-more, size-most}
 use Rattle.rules.specs.Rules.{Rule}
-use Rattle.rules.proofs.ListLaws.{every-imp, every-imp₂}
-use Rattle.evaluation.specs.Arrays.{ruleAt, rulesIn}
-use Rattle.evaluation.proofs.ArrayLaws.{rules-done, rules-next}
+use Rattle.arrays.specs.Arrays.{ruleAt, rulesIn}
+use Rattle.arrays.proofs.ArrayLaws.{rules-done, rules-next}
 use Rattle.relevance.specs.Relevance.{Bearing, Followed, Follows, Relevant, answerAtoms}
 
 -- ---- one rule

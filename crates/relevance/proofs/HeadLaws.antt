@@ -6,8 +6,8 @@ use Prim.Native.Nat.{ℕ}
 use native.Mathlib.Omega.{arith}
 use Rattle.atoms.specs.Sets.{Member, bit, disjoint}
 use Rattle.atoms.proofs.SetLaws.{disjoint-true, in-or-out, member-single, single-own, true-disjoint}
-use Rattle.evaluation.specs.Arrays.{OneAtom, atomOf}
-use Rattle.evaluation.proofs.HeadLaws.{one-low}
+use Rattle.arrays.specs.Arrays.{OneAtom, atomOf}
+use Rattle.arrays.proofs.HeadLaws.{one-low}
 
 module _ (S s : ℕ) (o : OneAtom s) where
   pub head-out : disjoint S s ≡ true → Member (atomOf s) S → ⊥

@@ -4,9 +4,10 @@ use mathlib.Core.Logic.{_↔_}
 use mathlib.Core.Bool.{Bool, cond, false, true, true≢false}
 use mathlib.Core.List.{List, [], _∷_}
 use Prim.Native.Nat.{ℕ}
+use Rattle.lists.specs.Lists.{Every}
+use Rattle.validation.proofs.TestLaws.{eqb-true, true-eqb}
 use Rattle.atoms.specs.Sets.{Member, member}
-use Rattle.atoms.proofs.TestLaws.{eqb-true, true-eqb}
-use Rattle.rules.specs.Rules.{Every, Rule}
+use Rattle.rules.specs.Rules.{Rule}
 use Rattle.relevance.specs.Relevance.{kept}
 
 pub kept-every : (R : ℕ) (rs : List Rule) (P : Rule → Type 0) → Every P (kept R rs) ↔ Every (λ r. Member (r .head) R → P r) rs

@@ -5,13 +5,14 @@ use mathlib.Core.List.{List, [], _∷_}
 use Prim.Native.Nat.{_+_, _<_, _≤_, suc, zero, ℕ}
 use lib.Dec.{eqb}
 use native.Mathlib.Omega.{arith}
+use Rattle.lists.proofs.ListLaws.{every-imp}
+use Rattle.lists.specs.Lists.{Every}
 use Rattle.atoms.specs.Sets.{Member, member}
 use Rattle.rules.specs.LevelByLevel.{byLevel, levelByLevel, ofLevel}
 use Rattle.rules.specs.Model.{model}
-use Rattle.rules.specs.Rules.{Every, Headed, Rule, Stratified}
+use Rattle.rules.specs.Rules.{Headed, Rule, Stratified}
 use Rattle.rules.proofs.LayoutLaws.{ofLevel-every}
 use Rattle.rules.proofs.LevelByLevelLaws.{level-by-level}
-use Rattle.rules.proofs.ListLaws.{every-imp}
 use Rattle.relevance.specs.Relevance.{Follows, SameOn, kept, keptLevels}
 use Rattle.relevance.proofs.AgreeLaws.{levels-agree-on}
 use Rattle.relevance.proofs.KeptLaws.{kept-every}

@@ -7,10 +7,10 @@ use lib.Dec.{eqb}
 use lib.ListN.{getD}
 use native.Mathlib.Numerals.{add-one}
 use native.Mathlib.Omega.{arith}
+use Rattle.validation.proofs.TestLaws.{true-eqb}
 use Rattle.atoms.specs.Sets.{Member, member}
 use Rattle.atoms.proofs.SetLaws.{not-in}
-use Rattle.atoms.proofs.TestLaws.{true-eqb}
-use Rattle.evaluation.specs.Arrays.{atomOf}
+use Rattle.arrays.specs.Arrays.{atomOf}
 use Rattle.relevance.specs.Places.{room, roomBefore}
 
 module _ (R : ℕ) where

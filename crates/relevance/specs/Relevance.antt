@@ -3,9 +3,10 @@ use mathlib.Core.Logic.{_↔_}
 use mathlib.Core.Bool.{cond}
 use mathlib.Core.List.{List, [], _∷_}
 use Prim.Native.Nat.{ℕ}
+use Rattle.lists.specs.Lists.{Every}
 use Rattle.atoms.specs.Atoms.{violation}
 use Rattle.atoms.specs.Sets.{Member, Subset, member, single, union}
-use Rattle.rules.specs.Rules.{Every, Rule}
+use Rattle.rules.specs.Rules.{Rule}
 use Rattle.rules.specs.Stable.{Least}
 
 -- R has, with the head of r, the body of r

@@ -2,10 +2,11 @@
 use mathlib.Core.List.{List}
 use Prim.Native.Nat.{ℕ}
 use lib.ListN.{getD}
+use Rattle.lists.specs.Lists.{Every}
 use Rattle.rules.specs.LevelByLevel.{levelByLevel, settle}
 use Rattle.rules.specs.Model.{model}
-use Rattle.rules.specs.Rules.{Every, Headed, Rule, Stratified}
-use Rattle.evaluation.specs.Arrays.{Placed, evaluated, rulesIn}
+use Rattle.rules.specs.Rules.{Headed, Rule, Stratified}
+use Rattle.arrays.specs.Arrays.{Placed, evaluated, rulesIn}
 use Rattle.relevance.specs.Places.{KeptIn, SameAnswer}
 use Rattle.relevance.specs.Relevance.{Follows, Relevant, SameOn, kept, keptLevels}
 
@@ -20,10 +21,11 @@ pub record Theorems : Type 0 where
   pub models : (lev : ℕ → ℕ) (R : ℕ) (rs : List Rule) → Every (Stratified lev) rs → Every (Follows R) rs → (C : ℕ)
       → SameOn R (model rs C) (model (kept R rs) C)
   -- the same of rules in arrays
-  pub arrays : (heads positive negated starts : List ℕ) → Placed heads starts → (R : ℕ) (h p n s : List ℕ)
-      → Every (Follows R) (rulesIn heads positive negated 0 (getD starts 9 0)) → KeptIn R heads positive negated starts h p n s
-      → (C : ℕ) → SameOn R (evaluated heads positive negated starts C) (evaluated h p n s C)
+  pub arrays : (levels : ℕ) (heads positive negated starts : List ℕ) → Placed levels heads starts → (R : ℕ) (h p n s : List ℕ)
+      → Every (Follows R) (rulesIn heads positive negated 0 (getD starts levels 0)) → KeptIn levels R heads positive negated starts h p n s
+      → (C : ℕ) → SameOn R (evaluated levels heads positive negated starts C) (evaluated levels h p n s C)
   -- and of the answer to a request, which need not be an atom
-  pub answers : (heads positive negated starts : List ℕ) → Placed heads starts → (R request : ℕ)
-      → Relevant (rulesIn heads positive negated 0 (getD starts 9 0)) request R → (h p n s : List ℕ) → KeptIn R heads positive negated starts h p n s
-      → SameAnswer request heads positive negated starts h p n s
+  pub answers : (levels : ℕ) (heads positive negated starts : List ℕ) → Placed levels heads starts → (R request : ℕ)
+      → Relevant (rulesIn heads positive negated 0 (getD starts levels 0)) request R → (h p n s : List ℕ)
+      → KeptIn levels R heads positive negated starts h p n s
+      → SameAnswer levels request heads positive negated starts h p n s

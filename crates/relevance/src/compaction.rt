@@ -1,9 +1,12 @@
 // The rules whose heads are in a set, each moved to the next place.
 ghost use mathlib.Core.Path.{_≡_};
-ghost use Prim.Native.Nat.{_+_, _<_, _≤_};
-ghost use Rattle.evaluation.specs.Arrays.{Heads, OneAtom, Placed};
-ghost use Rattle.relevance.specs.Places.{KeptIn, StartsMoved, roomBefore, room};
+ghost use Prim.Native.Nat.{_+_, _<_};
+ghost use Rattle.records.specs.Levels.{levelCount};
+ghost use Rattle.arrays.specs.Arrays.{OneAtom, Placed, Span};
+ghost use Rattle.relevance.specs.Places.{KeptIn, StartsMoved, room, roomBefore};
 use crate::LevelRules;
+use arrays::LEVELS;
+use arrays::Starts;
 use atoms::AtomSet;
 
 // Each rule is written at the next place, which moves on if the rule is kept.
@@ -11,13 +14,13 @@ pub(crate) fn kept_rules<'a>(
     heads: &'a [u64; 128],
     positive: &'a [u64; 128],
     negated: &'a [u64; 128],
-    starts: &'a [usize; 10],
+    starts: &'a Starts,
     set: AtomSet,
 ) -> LevelRules
-    requires { ⌜ Placed (now heads) (now starts) ⌝ }
+    requires { ⌜ Placed levelCount (now heads) (now starts) ⌝ }
     ensures { λ r.
-        ⌜ KeptIn (set .bits) (now (heads .entry)) (now (positive .entry)) (now (negated .entry)) (now (starts .entry)) (r .heads) (r .positive) (r .negated)
-        (r .starts) ⌝ }
+        ⌜ KeptIn levelCount (set .bits) (now (heads .entry)) (now (positive .entry)) (now (negated .entry)) (now (starts .entry))
+        (r .heads) (r .positive) (r .negated) (r .starts) ⌝ }
 {
     let moved = kept_starts(heads, starts, set);
     let mut kept = LevelRules {
@@ -26,7 +29,7 @@ pub(crate) fn kept_rules<'a>(
         negated: [0u64; 128],
         starts: moved,
     };
-    let count = starts[9];
+    let count = starts[LEVELS];
     let mut place: usize = 0;
     let mut k: usize = 0;
     while k < count {
@@ -43,15 +46,15 @@ pub(crate) fn kept_rules<'a>(
 }
 
 // Where each level begins: after what is kept of the levels below it.
-fn kept_starts<'a>(heads: &'a [u64; 128], starts: &'a [usize; 10], set: AtomSet) -> [usize; 10]
-    requires { ⌜ Placed (now heads) (now starts) ⌝ }
-    ensures { λ r. ⌜ StartsMoved (set .bits) (now (heads .entry)) (now (starts .entry)) r ⌝ }
+fn kept_starts<'a>(heads: &'a [u64; 128], starts: &'a Starts, set: AtomSet) -> Starts
+    requires { ⌜ Placed levelCount (now heads) (now starts) ⌝ }
+    ensures { λ r. ⌜ StartsMoved levelCount (set .bits) (now (heads .entry)) (now (starts .entry)) r ⌝ }
 {
-    let mut moved = [0usize; 10];
+    let mut moved = [0usize; LEVELS + 1];
     let mut from: usize = 0;
     let mut place: usize = 0;
     let mut l: usize = 0;
-    while l < 10 {
+    while l <= LEVELS {
         let to = starts[l];
         place = place_of(heads, from, to, place, set);
         moved[l] = place;
@@ -63,7 +66,7 @@ fn kept_starts<'a>(heads: &'a [u64; 128], starts: &'a [usize; 10], set: AtomSet)
 
 // The place where the rule at `to` goes, if that at `from` goes to `place`.
 fn place_of(heads: &[u64; 128], from: usize, to: usize, place: usize, set: AtomSet) -> usize
-    requires { ⌜ ((from ≤ to) × (to ≤ 128)) × (Heads (now heads) × (place ≡ roomBefore (set .bits) (now heads) from)) ⌝ }
+    requires { ⌜ Span from to (now heads) × (place ≡ roomBefore (set .bits) (now heads) from) ⌝ }
     ensures { λ r. ⌜ r ≡ roomBefore (set .bits) (now (heads .entry)) to ⌝ }
 {
     let mut next = place;

@@ -1,8 +1,8 @@
 // The atoms that bear on a request: rules followed backwards, from the head to the body, until a pass adds nothing.
 ghost use mathlib.Core.List.{[], _∷_};
-ghost use Prim.Native.Nat.{_<_, _≤_};
+ghost use Prim.Native.Nat.{_<_};
 ghost use lib.ListN.{getD};
-ghost use Rattle.evaluation.specs.Arrays.{Heads, OneAtom, ruleAt, rulesIn};
+ghost use Rattle.arrays.specs.Arrays.{OneAtom, Span, ruleAt, rulesIn};
 ghost use Rattle.relevance.specs.Relevance.{Followed, Relevant};
 use atoms::AtomSet;
 use atoms::VIOLATION;
@@ -15,7 +15,7 @@ pub(crate) fn relevant<'a>(
     count: usize,
     request: u8,
 ) -> AtomSet
-    requires { ⌜ (count ≤ 128) × Heads (now heads) ⌝ }
+    requires { ⌜ Span 0 count (now heads) ⌝ }
     ensures { λ r. ⌜ Relevant (rulesIn (now (heads .entry)) (now (positive .entry)) (now (negated .entry)) 0 count) request (r .bits) ⌝ }
 {
     let mut reached = AtomSet::one(request).union(AtomSet::one(VIOLATION));
@@ -36,7 +36,7 @@ fn follow_all<'a>(
     count: usize,
     set: AtomSet,
 ) -> AtomSet
-    requires { ⌜ (count ≤ 128) × Heads (now heads) ⌝ }
+    requires { ⌜ Span 0 count (now heads) ⌝ }
     ensures { λ r.
         ⌜ Followed (rulesIn (now (heads .entry)) (now (positive .entry)) (now (negated .entry)) 0 count) (set .bits) (r .bits) ⌝ }
 {

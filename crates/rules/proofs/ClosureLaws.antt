@@ -7,10 +7,11 @@ use Prim.Native.Nat.{_+_, _-_, _<_, _≤_, suc, zero, ℕ}
 use lib.ListN.{length}
 use native.Mathlib.Nat.{add-le-add}
 use native.Mathlib.Omega.{arith}
+use Rattle.lists.specs.Lists.{Every}
 use Rattle.atoms.specs.Sets.{Member, Subset, bit, single, union}
 use Rattle.atoms.proofs.SetLaws.{bit-lt, in-or-out, member-single, single-own, subset-antisym, union-cases, union-left, union-right}
 use Rattle.rules.specs.Model.{closureBy, times, passBy}
-use Rattle.rules.specs.Rules.{Every, Headed, Rule}
+use Rattle.rules.specs.Rules.{Headed, Rule}
 
 pub times-fixed : (n : ℕ) (f : ℕ → ℕ) (x : ℕ) → f x ≡ x → times n f x ≡ x
 unfolding times

@@ -2,13 +2,14 @@
 use mathlib.Core.Path.{_≡_, subst}
 use mathlib.Core.List.{List}
 use Prim.Native.Nat.{ℕ}
+use Rattle.lists.proofs.ListLaws.{every-imp}
+use Rattle.lists.specs.Lists.{Every}
 use Rattle.atoms.specs.Sets.{Member}
 use Rattle.atoms.proofs.SetLaws.{subset-antisym, subset-true, true-subset}
 use Rattle.rules.specs.Model.{applies, closure, consequences, passBy}
-use Rattle.rules.specs.Rules.{Every, Headed, Rule}
+use Rattle.rules.specs.Rules.{Headed, Rule}
 use Rattle.rules.specs.Stable.{Closed, Least, Stable, reduct}
 use Rattle.rules.proofs.ClosureLaws.{Keeps, closureBy-grows, closureBy-kept, closureBy-within, idle-kept}
-use Rattle.rules.proofs.ListLaws.{every-imp}
 use Rattle.rules.proofs.ReductLaws.{reduct-headed}
 
 -- ---- the closure is the least closed set, also among the predicates

@@ -5,15 +5,16 @@ use mathlib.Core.List.{List}
 use Prim.Native.Nat.{_+_, _<_, _≤_, suc, zero, ℕ}
 use native.Mathlib.Nat.{eq-or-lt-of-le, le-of-suc-le-suc, not-suc-le-zero}
 use native.Mathlib.Omega.{arith}
+use Rattle.lists.proofs.ListLaws.{every-imp, every-imp₂}
+use Rattle.lists.specs.Lists.{Every}
 use Rattle.atoms.specs.Sets.{Member, Subset}
 use Rattle.rules.specs.LevelByLevel.{byLevel, levelByLevel, ofLevel, settle}
 use Rattle.rules.specs.Model.{closure, consequences, model}
-use Rattle.rules.specs.Rules.{Every, Headed, Rule, Stratified}
+use Rattle.rules.specs.Rules.{Headed, Rule, Stratified}
 use Rattle.rules.specs.Stable.{Closed, Stable, Unstruck, reduct}
 use Rattle.rules.proofs.LayoutLaws.{ofLevel-every}
 use Rattle.rules.proofs.LeastLaws.{closure-closed, closure-within}
 use Rattle.rules.proofs.LevelLaws.{one-stable-any}
-use Rattle.rules.proofs.ListLaws.{every-imp, every-imp₂}
 use Rattle.rules.proofs.ReductLaws.{LeftRespects, Respects, reduct-every, reduct-headed}
 
 module _ (lev : ℕ → ℕ) (rs : List Rule) (strata : Every (Stratified lev) rs) (C : ℕ) where

@@ -6,11 +6,12 @@ use mathlib.Core.List.{List}
 use Prim.Native.Nat.{_+_, _-_, _<_, _≤_, min, suc, zero, ℕ}
 use native.Mathlib.Nat.{eq-or-lt-of-le, le-of-suc-le-suc, not-suc-le-zero}
 use native.Mathlib.Omega.{arith}
+use Rattle.lists.proofs.ListLaws.{every-imp}
+use Rattle.lists.specs.Lists.{Every}
 use Rattle.atoms.proofs.SetLaws.{member-low}
 use Rattle.rules.specs.Model.{model}
-use Rattle.rules.specs.Rules.{Every, Rule, Stratified}
+use Rattle.rules.specs.Rules.{Rule, Stratified}
 use Rattle.rules.specs.Stable.{OneStable}
-use Rattle.rules.proofs.ListLaws.{every-imp}
 use Rattle.rules.proofs.StratifiedLaws.{Ranked, one-stable}
 
 module _ (lev : ℕ → ℕ) where

@@ -1,5 +1,4 @@
 -- The laws of passes, closures, reducts and models.
-pub mod ListLaws
 pub mod ClosureLaws
 pub mod ReductLaws
 pub mod LeastLaws
@@ -9,4 +8,5 @@ pub mod LayoutLaws
 pub mod MeaningLaws
 pub mod LevelByLevelLaws
 pub mod LoopLaws
+pub mod UnlockLaws
 pub mod TheoremsProof

@@ -5,11 +5,12 @@ use mathlib.Core.Bool.{Bool, _&&_, cond, false, true}
 use mathlib.Core.List.{List, [], _∷_}
 use Prim.Native.Nat.{_-_, _<_, _^_, ℕ}
 use native.Mathlib.Omega.{arith}
+use Rattle.lists.specs.Lists.{Every}
 use Rattle.atoms.specs.Sets.{Subset, disjoint, empty, single, size, subset, union}
 use Rattle.atoms.proofs.SizeLaws.{size-more, size-most}
 use Rattle.rules.specs.LevelByLevel.{levelByLevel, passOver, settle}
 use Rattle.rules.specs.Model.{applies, closure, consequences, passBy}
-use Rattle.rules.specs.Rules.{Every, Rule}
+use Rattle.rules.specs.Rules.{Rule}
 use Rattle.rules.specs.Stable.{positiveOnly, reduct}
 use Rattle.rules.proofs.ClosureLaws.{closureBy-fixed, closureBy-pass, pass-grows}
 use Rattle.rules.proofs.ReductLaws.{reduct-positive}

@@ -2,8 +2,8 @@
 use mathlib.Core.Logic.{_↔_}
 use mathlib.Core.List.{List}
 use Prim.Native.Nat.{ℕ}
+use Rattle.lists.specs.Lists.{OneOf}
 use Rattle.atoms.specs.Sets.{Member, Subset}
-use Rattle.rules.specs.LevelByLevel.{OneOf}
 use Rattle.rules.specs.Rules.{Rule}
 use Rattle.rules.specs.Stable.{Closed, Stable, reduct}
 use Rattle.rules.specs.Theorems.{ClosedBeside}

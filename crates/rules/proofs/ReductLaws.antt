@@ -4,12 +4,13 @@ use mathlib.Core.Logic.{_↔_}
 use mathlib.Core.Bool.{Bool, cond, false, true, true≢false}
 use mathlib.Core.List.{List, [], _∷_}
 use Prim.Native.Nat.{ℕ}
+use Rattle.lists.proofs.ListLaws.{every-imp}
+use Rattle.lists.specs.Lists.{Every}
 use Rattle.atoms.specs.Sets.{Member, Subset, disjoint, empty}
 use Rattle.atoms.proofs.SetLaws.{disjoint-true, empty-subset, none-in-empty, true-disjoint}
-use Rattle.rules.specs.Rules.{Every, Headed, Rule}
+use Rattle.rules.specs.Rules.{Headed, Rule}
 use Rattle.rules.specs.Stable.{Stable, Unstruck, positiveOnly, reduct}
 use Rattle.rules.specs.Theorems.{BodyHolds}
-use Rattle.rules.proofs.ListLaws.{every-imp}
 
 -- X is closed under r; and it is where M leaves r
 abbrev pub Respects : ℕ → Rule → Type 0

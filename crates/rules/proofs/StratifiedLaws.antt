@@ -5,14 +5,15 @@ use mathlib.Core.List.{List, [], _∷_}
 use Prim.Native.Nat.{_<_, _≤_, suc, zero, ℕ}
 use native.Mathlib.Nat.{not-suc-le-zero}
 use native.Mathlib.Omega.{arith}
+use Rattle.lists.proofs.ListLaws.{every-imp}
+use Rattle.lists.specs.Lists.{Every}
 use Rattle.atoms.specs.Sets.{Member, bit, disjoint}
 use Rattle.atoms.proofs.SetLaws.{disjoint-true, same-bit, true-disjoint}
 use Rattle.rules.specs.Model.{closure, consequences, times}
-use Rattle.rules.specs.Rules.{Every, Headed, Levelled, Rule}
+use Rattle.rules.specs.Rules.{Headed, Levelled, Rule}
 use Rattle.rules.specs.Stable.{Closed, OneStable, positiveOnly, reduct}
 use Rattle.rules.proofs.ClosureLaws.{times-fixed, times-in, times-out}
 use Rattle.rules.proofs.LeastLaws.{closure-closed, closure-within, is-stable, stable-is}
-use Rattle.rules.proofs.ListLaws.{every-imp}
 use Rattle.rules.proofs.ReductLaws.{Respects, reduct-headed}
 
 -- `lev` gives each atom a level. No positive atom of a rule is above the head, every negated one is below it, and no head is above `top`.

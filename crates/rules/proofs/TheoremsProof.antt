@@ -8,6 +8,7 @@ use Rattle.rules.proofs.LevelByLevelLaws.{level-by-level}
 use Rattle.rules.proofs.LevelLaws.{one-stable-any}
 use Rattle.rules.proofs.MeaningLaws.{closed-means, same-stable, stable-means}
 use Rattle.rules.proofs.ReductLaws.{empty-body, reduct-every, stable-applied, two-sided}
+use Rattle.rules.proofs.UnlockLaws.{grants-means, unlocks-iff}
 
 pub theorems : Theorems
 theorems = record {
@@ -19,6 +20,8 @@ theorems = record {
   empty-body = empty-body;
   closures = closure-least;
   models = one-stable-any;
+  grants-means = grants-means;
+  unlocking = unlocks-iff;
   orders = same-stable;
   of-level = one-of-level;
   levels = level-by-level;

@@ -1,5 +1,4 @@
 -- Document 01, "Atoms and records": a rule, as the model and disclosure read it. Assumes nothing.
-use mathlib.Core.List.{List, [], _∷_}
 use Prim.Native.Nat.{_<_, _^_, _≤_, ℕ}
 use Rattle.atoms.specs.Atoms.{violation}
 use Rattle.atoms.specs.Sets.{Member}
@@ -9,11 +8,6 @@ pub record Rule : Type 0 where
   pub head : ℕ
   pub positive : ℕ
   pub negated : ℕ
-
--- P holds of each element
-abbrev pub Every {ℓ} : {A : Type ℓ} → (A → Type 0) → List A → Type 0
-Every P [] = Unit {0}
-Every P (x ∷ xs) = P x × Every P xs
 
 -- "Atoms are numbered 0 to 63": the head is an atom
 abbrev pub Headed : Rule → Type 0

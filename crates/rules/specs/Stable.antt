@@ -4,8 +4,9 @@ use mathlib.Core.Path.{_≡_}
 use mathlib.Core.Bool.{cond}
 use mathlib.Core.List.{List, [], _∷_}
 use Prim.Native.Nat.{ℕ}
+use Rattle.lists.specs.Lists.{Every}
 use Rattle.atoms.specs.Sets.{Member, Subset, disjoint, empty}
-use Rattle.rules.specs.Rules.{Every, Rule}
+use Rattle.rules.specs.Rules.{Rule}
 
 -- "strike each rule that negates an atom of M": r is none of them
 abbrev pub Unstruck : ℕ → Rule → Type 0

@@ -1,13 +1,17 @@
 -- The theorems of rules: what is computed is what is meant. Assumes nothing.
 use mathlib.Core.Path.{_≡_}
 use mathlib.Core.Logic.{_↔_}
+use mathlib.Core.Bool.{true}
 use mathlib.Core.List.{List}
 use Prim.Native.Nat.{_<_, ℕ}
+use Rattle.lists.specs.Lists.{Every, OneOf}
 use Rattle.atoms.specs.Sets.{Member, Subset, empty}
-use Rattle.rules.specs.LevelByLevel.{OneOf, byLevel, levelByLevel, ofLevel}
+use Rattle.rules.specs.LevelByLevel.{byLevel, levelByLevel, ofLevel}
 use Rattle.rules.specs.Model.{applies, closure, model, passBy}
-use Rattle.rules.specs.Rules.{Every, Headed, Rule, Stratified}
+use Rattle.rules.specs.Policy.{Policy}
+use Rattle.rules.specs.Rules.{Headed, Rule, Stratified}
 use Rattle.rules.specs.Stable.{Closed, Least, OneStable, Stable, reduct}
+use Rattle.rules.specs.Unlocking.{Unlocks, grants, unlocks}
 
 -- the body of r holds in M: all of its positive part, and none of its negated part
 pub record BodyHolds (M : ℕ) (r : Rule) : Type 0 where
@@ -39,6 +43,10 @@ pub record Theorems : Type 1 where
   pub closures : (rs : List Rule) → Every Headed rs → (C : ℕ) → Least (Closed rs C) (closure rs C)
   -- "just one stable set exists; that is the model", where the rules keep levels, whatever these are
   pub models : (lev : ℕ → ℕ) (rs : List Rule) → Every (Stratified lev) rs → (C : ℕ) → OneStable rs C (model rs C)
+  -- "r is in the model and 63 is not", of any set
+  pub grants-means : (r M : ℕ) → (grants r M ≡ true) ↔ (Member r M × (Member 63 M → ⊥))
+  -- "C unlocks service r if r is in the model and 63 is not."
+  pub unlocking : (lev : ℕ → ℕ) (pol : Policy) → Every (Stratified lev) (pol .access) → (r C : ℕ) → (unlocks pol r C ≡ true) ↔ Unlocks pol r C
   -- "The same record may come twice.": the order of rules and their repetition do not change what is stable
   pub orders : (rs qs : List Rule) → ((r : Rule) → OneOf r rs ↔ OneOf r qs) → (C M : ℕ) → Stable rs C M → Stable qs C M
   -- the rules of level l are those of the list on that level, and no others

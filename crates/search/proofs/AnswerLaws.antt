@@ -1,5 +1,5 @@
 -- What is settled is the answer. Assumes nothing.
-use mathlib.Core.Path.{_∙_, _≡_, ap, ap₂, refl, subst, sym}
+use mathlib.Core.Path.{_∙_, _≡_, ap, ap₂, subst, sym}
 use mathlib.Core.Logic.{_⊎_, inl, inr}
 use mathlib.Core.Bool.{Bool, cond, false, true}
 use mathlib.Core.List.{List}
@@ -125,9 +125,11 @@ answer-zero ws test N tried limit p z t e =
 
 -- ---- fewer rules
 
-pub answer-relevant : (r : ℕ) (h p m s H P M S : List ℕ) → SameAnswer r h p m s H P M S → (ws : List ℕ) (shown : ℕ) (members : List ℕ) (count limit : ℕ)
-    → searched (costOf ws) (opensAt H P M S r shown members count) (2 ^ count) limit ≡ searched (costOf ws) (opensAt h p m s r shown members count) (2 ^ count) limit
+pub answer-relevant : (levels r : ℕ) (h p m s H P M S : List ℕ) → SameAnswer levels r h p m s H P M S
+    → (ws : List ℕ) (shown : ℕ) (members : List ℕ) (count limit : ℕ)
+    → searched (costOf ws) (opensAt levels H P M S r shown members count) (2 ^ count) limit
+    ≡ searched (costOf ws) (opensAt levels h p m s r shown members count) (2 ^ count) limit
 unfolding opensAt
-answer-relevant r h p m s H P M S same ws shown members count limit =
-    searched-same (costOf ws) (opensAt H P M S r shown members count) (opensAt h p m s r shown members count) (2 ^ count)
+answer-relevant levels r h p m s H P M S same ws shown members count limit =
+    searched-same (costOf ws) (opensAt levels H P M S r shown members count) (opensAt levels h p m s r shown members count) (2 ^ count)
     (λ n. same .same (switched shown members count n)) (pow-pos count) limit

@@ -1,5 +1,5 @@
 -- Candidates by blocks, in order of the blocks' keys. Assumes nothing.
-use mathlib.Core.Path.{_∙_, _≡_, ap, refl, subst, sym}
+use mathlib.Core.Path.{_∙_, _≡_, ap, subst, sym}
 use mathlib.Core.Logic.{_⊎_, inl, inr}
 use mathlib.Core.Bool.{Bool, true}
 use mathlib.Core.List.{List}
@@ -24,28 +24,28 @@ use Rattle.search.specs.Blocks.{Best, BestOf, Better, Known, LaneKeys, L
 widened-later : (x y : ℕ) → x ≤ y → widened x ≤ widened y
 widened-later x y l = omega arith
 
-pub visited : (h p m s : List ℕ) (request shown : ℕ) (members : List ℕ) (count key best : ℕ) (low words : List ℕ) (lanes lane r : ℕ) → LaneKeys low lanes
-    → Unlocking h p m s request shown members count (key % 256) words → Cheapest low words 256 lane → Better best (256 * key + widened lane) r
-    → Visited (opensAt h p m s request shown members count) low lanes key best r
+pub visited : (levels : ℕ) (h p m s : List ℕ) (request shown : ℕ) (members : List ℕ) (count key best : ℕ) (low words : List ℕ) (lanes lane r : ℕ) → LaneKeys low lanes
+    → Unlocking levels h p m s request shown members count (key % 256) words → Cheapest low words 256 lane → Better best (256 * key + widened lane) r
+    → Visited (opensAt levels h p m s request shown members count) low lanes key best r
 unfolding opensAt
-visited h p m s request shown members count key best low words lanes lane r k u c b = record {
+visited levels h p m s request shown members count key best low words lanes lane r k u c b = record {
   kept = b .kept;
   each = λ i l t. omega (arith, b .met, widened-later lane (getD low i 0) (c .least i (omega (arith, k .most)) (u .each i (omega (arith, k .most)) ∙ t)));
   one = one (b .one);
 }
   where
     met : r ≡ 256 * key + widened lane → (lane ≡ never) ⊎ ((i : ℕ) × (i < 256) × Passing words i × (getD low i 0 ≡ lane))
-        → (neverKey ≤ r) ⊎ ((i : ℕ) × (i < lanes) × (opensAt h p m s request shown members count (256 * (key % 256) + i) ≡ true) × (256 * key + widened (getD low i 0) ≡ r))
+        → (neverKey ≤ r) ⊎ ((i : ℕ) × (i < lanes) × (opensAt levels h p m s request shown members count (256 * (key % 256) + i) ≡ true) × (256 * key + widened (getD low i 0) ≡ r))
     met e (inl z) = inl (omega arith)
     met e (inr (i, l, q, d)) = go (decLt i lanes)
       where
         go : Dec (i < lanes) → (neverKey ≤ r)
-            ⊎ ((i : ℕ) × (i < lanes) × (opensAt h p m s request shown members count (256 * (key % 256) + i) ≡ true) × (256 * key + widened (getD low i 0) ≡ r))
+            ⊎ ((i : ℕ) × (i < lanes) × (opensAt levels h p m s request shown members count (256 * (key % 256) + i) ≡ true) × (256 * key + widened (getD low i 0) ≡ r))
         go (yes j) = inr (i, j, sym (u .each i l) ∙ q, omega arith)
         go (no j) = let z = k .beyond i (omega arith) l in inl (omega arith)
 
     one : (r ≡ best) ⊎ (r ≡ 256 * key + widened lane) → (r ≡ best)
-        ⊎ ((neverKey ≤ r) ⊎ ((i : ℕ) × (i < lanes) × (opensAt h p m s request shown members count (256 * (key % 256) + i) ≡ true) × (256 * key + widened (getD low i 0) ≡ r)))
+        ⊎ ((neverKey ≤ r) ⊎ ((i : ℕ) × (i < lanes) × (opensAt levels h p m s request shown members count (256 * (key % 256) + i) ≡ true) × (256 * key + widened (getD low i 0) ≡ r)))
     one (inl e) = inl e
     one (inr e) = inr (met e (c .one))
 

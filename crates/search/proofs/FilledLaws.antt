@@ -6,7 +6,7 @@ use Prim.Native.Nat.{_<_, suc, zero, ℕ}
 use lib.Dec.{eqb}
 use lib.ListN.{getD, length}
 use native.Mathlib.Nat.{le-of-suc-le-suc, not-suc-le-zero}
-use Rattle.atoms.proofs.TestLaws.{and-true, eqb-true}
+use Rattle.validation.proofs.TestLaws.{and-true, eqb-true}
 
 unfoldable pub allAre : ℕ → List ℕ → Bool
 allAre x [] = true

@@ -3,9 +3,9 @@ use mathlib.Core.Path.{_≡_}
 use mathlib.Core.Logic.{_⊎_}
 use mathlib.Core.Bool.{Bool, false, true}
 use mathlib.Core.List.{List}
-use Prim.Native.Nat.{_%_, _*_, _+_, _<_, _^_, _≤_, ℕ}
+use Prim.Native.Nat.{_%_, _*_, _+_, _-_, _<_, _^_, _≤_, ℕ}
 use lib.ListN.{getD}
-use Rattle.ranking.specs.Grid.{keyAt, neverKey}
+use Rattle.ranking.specs.Grid.{Tables, keyAt, neverKey}
 use Rattle.ranking.specs.Keys.{Keys, never, widened}
 
 -- the keys of the candidates of some members, from one on; past them never
@@ -23,6 +23,18 @@ pub record Better (best key r : ℕ) : Type 0 where
 pub record Last (key end best : ℕ) (r : Bool) : Type 0 where
   pub yes : r ≡ true → (end ≤ key) ⊎ (best < 256 * key)
   pub no : r ≡ false → key < end
+
+-- what the bar of a limit needs: lanes and blocks within their tables, a block at least, and a key of the last one
+pub record Limitable (lanes : ℕ) (high : List ℕ) (blocks : ℕ) : Type 0 where
+  pub lanes-most : lanes ≤ 256
+  pub blocks-some : 0 < blocks
+  pub blocks-most : blocks ≤ 256
+  pub last-key : getD high (blocks - 1) 0 < never
+
+-- tables of keys, and the key of the blocks where the search ends
+pub record Bounded (low : List ℕ) (lanes : ℕ) (high : List ℕ) (blocks end : ℕ) : Type 0 where
+  pub tables : Tables low lanes high blocks
+  pub last : end ≤ never
 
 -- past the lanes stands never
 pub record LaneKeys (low : List ℕ) (lanes : ℕ) : Type 0 where

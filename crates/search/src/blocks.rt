@@ -3,19 +3,18 @@
 ghost use mathlib.Core.Path.{_≡_};
 ghost use Prim.Native.Nat.{ℕ, _*_, _+_, _-_, _<_, _^_, _≤_, min};
 ghost use lib.ListN.{getD, length};
-ghost use Rattle.evaluation.specs.Arrays.{Placed};
-ghost use Rattle.preference.specs.Candidates.{Members};
-ghost use Rattle.preference.specs.InArrays.{opensAt};
+ghost use Rattle.records.specs.Levels.{levelCount};
+ghost use Rattle.preference.specs.InArrays.{Searchable, opensAt};
 ghost use Rattle.preference.specs.Order.{costOf, searched};
-ghost use Rattle.ranking.specs.Grid.{Tables};
 ghost use Rattle.ranking.specs.Keys.{never, widened};
 ghost use Rattle.ranking.specs.Place.{Bar};
-ghost use Rattle.search.specs.Blocks.{BestOf, Better, KeyTable, LaneKeys, Last, Visited};
+ghost use Rattle.search.specs.Blocks.{BestOf, Better, Bounded, KeyTable, LaneKeys, Last, Limitable, Visited};
 ghost use Rattle.search.specs.Types.{resultOf};
-use crate::answer::Answer;
-use crate::answer::found;
-use crate::answer::nothing;
 use crate::candidate::candidates;
+use crate::result::SearchResult;
+use crate::result::found;
+use crate::result::nothing;
+use arrays::Starts;
 use lanes::blocks::block;
 use ranking::NEVER;
 use ranking::cheapest::cheapest;
@@ -55,19 +54,19 @@ pub(crate) fn by_blocks<'a>(
     heads: &'a [u64; 128],
     positive: &'a [u64; 128],
     negated: &'a [u64; 128],
-    starts: &'a [usize; 10],
+    starts: &'a Starts,
     request: u8,
     shown: u16,
     members: &'a [u16; 16],
     count: usize,
     weights: &'a [u8; 16],
     limit: usize,
-) -> Answer
-    requires { ⌜ Placed (now heads) (now starts) × ((request ≤ 63) × Members (now members) count) ⌝ }
+) -> SearchResult
+    requires { ⌜ Searchable levelCount (now heads) (now starts) request (now members) count ⌝ }
     ensures { λ r.
         ⌜ resultOf r ≡ searched (costOf (now (weights .entry)))
-        (opensAt (now (heads .entry)) (now (positive .entry)) (now (negated .entry)) (now (starts .entry)) request shown (now (members .entry)) count)
-        (2 ^ count) limit ⌝ }
+        (opensAt levelCount (now (heads .entry)) (now (positive .entry)) (now (negated .entry)) (now (starts .entry)) request shown
+        (now (members .entry)) count) (2 ^ count) limit ⌝ }
 {
     let inner = lesser(count, 8);
     let lanes = candidates(inner);
@@ -105,7 +104,7 @@ fn limit_bar<'a>(
     blocks: usize,
     limit: usize,
 ) -> u32
-    requires { ⌜ ((lanes ≤ 256) × ((0 < blocks) × (blocks ≤ 256))) × (getD (now high) (blocks - 1) 0 < never) ⌝ }
+    requires { ⌜ Limitable lanes (now high) blocks ⌝ }
     ensures { λ r. ⌜ Bar (now (low .entry)) lanes (now (high .entry)) blocks limit r ⌝ }
 {
     if lanes * blocks <= limit {
@@ -120,7 +119,7 @@ fn best_of<'a>(
     heads: &'a [u64; 128],
     positive: &'a [u64; 128],
     negated: &'a [u64; 128],
-    starts: &'a [usize; 10],
+    starts: &'a Starts,
     request: u8,
     shown: u16,
     members: &'a [u16; 16],
@@ -131,11 +130,11 @@ fn best_of<'a>(
     blocks: usize,
     end: u32,
 ) -> u64
-    requires { ⌜ (Placed (now heads) (now starts) × ((request ≤ 63) × Members (now members) count))
-        × (Tables (now low) lanes (now high) blocks × (end ≤ never)) ⌝ }
+    requires { ⌜ Searchable levelCount (now heads) (now starts) request (now members) count
+        × Bounded (now low) lanes (now high) blocks end ⌝ }
     ensures { λ r.
-        ⌜ BestOf (opensAt (now (heads .entry)) (now (positive .entry)) (now (negated .entry)) (now (starts .entry)) request shown (now (members .entry)) count)
-        (now (low .entry)) lanes (now (high .entry)) blocks end r ⌝ }
+        ⌜ BestOf (opensAt levelCount (now (heads .entry)) (now (positive .entry)) (now (negated .entry)) (now (starts .entry)) request shown
+        (now (members .entry)) count) (now (low .entry)) lanes (now (high .entry)) blocks end r ⌝ }
 {
     let mut best: u64 = NEVER_KEY;
     let mut from: u32 = 0;
@@ -177,7 +176,7 @@ fn visit<'a>(
     heads: &'a [u64; 128],
     positive: &'a [u64; 128],
     negated: &'a [u64; 128],
-    starts: &'a [usize; 10],
+    starts: &'a Starts,
     request: u8,
     shown: u16,
     members: &'a [u16; 16],
@@ -187,10 +186,10 @@ fn visit<'a>(
     key: u32,
     best: u64,
 ) -> u64
-    requires { ⌜ (Placed (now heads) (now starts) × ((request ≤ 63) × Members (now members) count)) × LaneKeys (now low) lanes ⌝ }
+    requires { ⌜ Searchable levelCount (now heads) (now starts) request (now members) count × LaneKeys (now low) lanes ⌝ }
     ensures { λ r.
-        ⌜ Visited (opensAt (now (heads .entry)) (now (positive .entry)) (now (negated .entry)) (now (starts .entry)) request shown (now (members .entry)) count)
-        (now (low .entry)) lanes key best r ⌝ }
+        ⌜ Visited (opensAt levelCount (now (heads .entry)) (now (positive .entry)) (now (negated .entry)) (now (starts .entry)) request shown
+        (now (members .entry)) count) (now (low .entry)) lanes key best r ⌝ }
 {
     let b = (key % 256) as usize;
     let words = block(

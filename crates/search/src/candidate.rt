@@ -1,19 +1,22 @@
 // What a candidate tries.
 ghost use mathlib.Core.Path.{_≡_};
 ghost use mathlib.Core.Bool.{cond};
-ghost use Prim.Native.Nat.{_<_, _^_, _≤_};
+ghost use Prim.Native.Nat.{_≤_};
 ghost use lib.Bits.{bitXor};
 ghost use lib.Dec.{eqb};
-ghost use Rattle.evaluation.specs.Arrays.{Placed};
+ghost use Rattle.records.specs.Levels.{levelCount};
+ghost use Rattle.arrays.specs.Arrays.{Placed};
 ghost use Rattle.preference.specs.Candidates.{switched};
 ghost use Rattle.preference.specs.InArrays.{opensAt};
+ghost use Rattle.search.specs.Candidates.{CandidatesOf};
+use arrays::Starts;
 use atoms::AtomSet;
 use evaluation::levels::unlocks;
 
 // How many candidates some members have.
 pub(crate) fn candidates(members: usize) -> usize
     requires { ⌜ members ≤ 16 ⌝ }
-    ensures { λ r. ⌜ (r ≡ 2 ^ members) × ((0 < r) × (r ≤ 65536)) ⌝ }
+    ensures { λ r. ⌜ CandidatesOf members r ⌝ }
 {
     1usize << members
 }
@@ -44,16 +47,17 @@ pub(crate) fn opens<'a>(
     heads: &'a [u64; 128],
     positive: &'a [u64; 128],
     negated: &'a [u64; 128],
-    starts: &'a [usize; 10],
+    starts: &'a Starts,
     request: u8,
     shown: u16,
     members: &'a [u16; 16],
     count: usize,
     n: usize,
 ) -> bool
-    requires { ⌜ Placed (now heads) (now starts) × (count ≤ 16) ⌝ }
+    requires { ⌜ Placed levelCount (now heads) (now starts) × (count ≤ 16) ⌝ }
     ensures { λ r.
-        ⌜ r ≡ opensAt (now (heads .entry)) (now (positive .entry)) (now (negated .entry)) (now (starts .entry)) request shown (now (members .entry)) count n ⌝ }
+        ⌜ r ≡ opensAt levelCount (now (heads .entry)) (now (positive .entry)) (now (negated .entry)) (now (starts .entry)) request shown
+        (now (members .entry)) count n ⌝ }
 {
     let credentials = AtomSet::credentials(switched(shown, members, count, n));
     unlocks(heads, positive, negated, starts, request, credentials)

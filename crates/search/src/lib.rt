@@ -1,22 +1,22 @@
 // The search: the first candidate in order of cost that unlocks the request, and its place, within a limit.
 ghost use mathlib.Core.Path.{_≡_};
 ghost use mathlib.Core.Bool.{false};
-ghost use Prim.Native.Nat.{_^_, _≤_};
-ghost use Rattle.evaluation.specs.Arrays.{Placed};
-ghost use Rattle.preference.specs.Candidates.{Members};
-ghost use Rattle.preference.specs.InArrays.{opensAt};
+ghost use Prim.Native.Nat.{_^_};
+ghost use Rattle.records.specs.Levels.{levelCount};
+ghost use Rattle.preference.specs.InArrays.{Searchable, opensAt};
 ghost use Rattle.preference.specs.Order.{costOf, searched};
 ghost use Rattle.search.specs.Types.{resultOf};
-use answer::Answer;
-use answer::nothing;
+use arrays::Starts;
 use blocks::by_blocks;
 use candidate::candidates;
 use relevance::relevant_rules;
+use result::SearchResult;
+use result::nothing;
 use singles::one_by_one;
 
-pub mod answer;
 mod blocks;
 pub mod candidate;
+pub mod result;
 mod singles;
 
 // Of so many members the candidates are tried one by one; of so many they are one block.
@@ -30,20 +30,20 @@ pub fn first<'a>(
     heads: &'a [u64; 128],
     positive: &'a [u64; 128],
     negated: &'a [u64; 128],
-    starts: &'a [usize; 10],
+    starts: &'a Starts,
     request: u8,
     shown: u16,
     members: &'a [u16; 16],
     count: usize,
     weights: &'a [u8; 16],
     limit: usize,
-) -> Answer
-    requires { ⌜ (Placed (now heads) (now starts) × ((request ≤ 63) × Members (now members) count))
-        × (opensAt (now heads) (now positive) (now negated) (now starts) request shown (now members) count 0 ≡ false) ⌝ }
+) -> SearchResult
+    requires { ⌜ Searchable levelCount (now heads) (now starts) request (now members) count
+        × (opensAt levelCount (now heads) (now positive) (now negated) (now starts) request shown (now members) count 0 ≡ false) ⌝ }
     ensures { λ r.
         ⌜ resultOf r ≡ searched (costOf (now (weights .entry)))
-        (opensAt (now (heads .entry)) (now (positive .entry)) (now (negated .entry)) (now (starts .entry)) request shown (now (members .entry)) count)
-        (2 ^ count) limit ⌝ }
+        (opensAt levelCount (now (heads .entry)) (now (positive .entry)) (now (negated .entry)) (now (starts .entry)) request shown
+        (now (members .entry)) count) (2 ^ count) limit ⌝ }
 {
     if limit == 0 {
         return nothing(candidates(count) - 1, limit);
@@ -81,19 +81,19 @@ fn many<'a>(
     heads: &'a [u64; 128],
     positive: &'a [u64; 128],
     negated: &'a [u64; 128],
-    starts: &'a [usize; 10],
+    starts: &'a Starts,
     request: u8,
     shown: u16,
     members: &'a [u16; 16],
     count: usize,
     weights: &'a [u8; 16],
     limit: usize,
-) -> Answer
-    requires { ⌜ Placed (now heads) (now starts) × ((request ≤ 63) × Members (now members) count) ⌝ }
+) -> SearchResult
+    requires { ⌜ Searchable levelCount (now heads) (now starts) request (now members) count ⌝ }
     ensures { λ r.
         ⌜ resultOf r ≡ searched (costOf (now (weights .entry)))
-        (opensAt (now (heads .entry)) (now (positive .entry)) (now (negated .entry)) (now (starts .entry)) request shown (now (members .entry)) count)
-        (2 ^ count) limit ⌝ }
+        (opensAt levelCount (now (heads .entry)) (now (positive .entry)) (now (negated .entry)) (now (starts .entry)) request shown
+        (now (members .entry)) count) (2 ^ count) limit ⌝ }
 {
     if count <= ONE_BLOCK {
         return by_blocks(
@@ -128,19 +128,19 @@ fn by_relevant_rules<'a>(
     heads: &'a [u64; 128],
     positive: &'a [u64; 128],
     negated: &'a [u64; 128],
-    starts: &'a [usize; 10],
+    starts: &'a Starts,
     request: u8,
     shown: u16,
     members: &'a [u16; 16],
     count: usize,
     weights: &'a [u8; 16],
     limit: usize,
-) -> Answer
-    requires { ⌜ Placed (now heads) (now starts) × ((request ≤ 63) × Members (now members) count) ⌝ }
+) -> SearchResult
+    requires { ⌜ Searchable levelCount (now heads) (now starts) request (now members) count ⌝ }
     ensures { λ r.
         ⌜ resultOf r ≡ searched (costOf (now (weights .entry)))
-        (opensAt (now (heads .entry)) (now (positive .entry)) (now (negated .entry)) (now (starts .entry)) request shown (now (members .entry)) count)
-        (2 ^ count) limit ⌝ }
+        (opensAt levelCount (now (heads .entry)) (now (positive .entry)) (now (negated .entry)) (now (starts .entry)) request shown
+        (now (members .entry)) count) (2 ^ count) limit ⌝ }
 {
     let rules = relevant_rules(heads, positive, negated, starts, request);
     by_blocks(

@@ -1,17 +1,18 @@
 // The candidates of few members, one by one.
 ghost use mathlib.Core.Path.{_≡_};
-ghost use mathlib.Core.Bool.{false};
 ghost use Prim.Native.Nat.{_<_, _^_, _≤_};
-ghost use Rattle.evaluation.specs.Arrays.{Placed};
+ghost use Rattle.records.specs.Levels.{levelCount};
+ghost use Rattle.arrays.specs.Arrays.{Placed};
 ghost use Rattle.preference.specs.InArrays.{opensAt};
 ghost use Rattle.preference.specs.Order.{costOf, searched};
-ghost use Rattle.search.specs.Singles.{BestLane, Tried, turnOf};
+ghost use Rattle.search.specs.Singles.{BestLane, FewMembers, Tried, turnOf};
 ghost use Rattle.search.specs.Types.{resultOf};
-use crate::answer::Answer;
-use crate::answer::found;
-use crate::answer::nothing;
 use crate::candidate::candidates;
 use crate::candidate::opens;
+use crate::result::SearchResult;
+use crate::result::found;
+use crate::result::nothing;
+use arrays::Starts;
 use ranking::NEVER;
 use ranking::keys::write_keys;
 use ranking::place::keys_below;
@@ -21,20 +22,19 @@ pub(crate) fn one_by_one<'a>(
     heads: &'a [u64; 128],
     positive: &'a [u64; 128],
     negated: &'a [u64; 128],
-    starts: &'a [usize; 10],
+    starts: &'a Starts,
     request: u8,
     shown: u16,
     members: &'a [u16; 16],
     count: usize,
     weights: &'a [u8; 16],
     limit: usize,
-) -> Answer
-    requires { ⌜ (Placed (now heads) (now starts) × (count ≤ 3))
-        × (opensAt (now heads) (now positive) (now negated) (now starts) request shown (now members) count 0 ≡ false) ⌝ }
+) -> SearchResult
+    requires { ⌜ FewMembers levelCount (now heads) (now positive) (now negated) (now starts) request shown (now members) count ⌝ }
     ensures { λ r.
         ⌜ resultOf r ≡ searched (costOf (now (weights .entry)))
-        (opensAt (now (heads .entry)) (now (positive .entry)) (now (negated .entry)) (now (starts .entry)) request shown (now (members .entry)) count)
-        (2 ^ count) limit ⌝ }
+        (opensAt levelCount (now (heads .entry)) (now (positive .entry)) (now (negated .entry)) (now (starts .entry)) request shown
+        (now (members .entry)) count) (2 ^ count) limit ⌝ }
 {
     let lanes = candidates(count);
     let mut low = [NEVER; 8];
@@ -62,17 +62,17 @@ fn best_lane<'a>(
     heads: &'a [u64; 128],
     positive: &'a [u64; 128],
     negated: &'a [u64; 128],
-    starts: &'a [usize; 10],
+    starts: &'a Starts,
     request: u8,
     shown: u16,
     members: &'a [u16; 16],
     count: usize,
     low: &'a [u32; 8],
 ) -> u32
-    requires { ⌜ Placed (now heads) (now starts) × (count ≤ 3) ⌝ }
+    requires { ⌜ Placed levelCount (now heads) (now starts) × (count ≤ 3) ⌝ }
     ensures { λ r.
-        ⌜ BestLane (opensAt (now (heads .entry)) (now (positive .entry)) (now (negated .entry)) (now (starts .entry)) request shown (now (members .entry)) count)
-        (now (low .entry)) 7 r ⌝ }
+        ⌜ BestLane (opensAt levelCount (now (heads .entry)) (now (positive .entry)) (now (negated .entry)) (now (starts .entry)) request shown
+        (now (members .entry)) count) (now (low .entry)) 7 r ⌝ }
 {
     let mut best: u32 = NEVER;
     let mut k: usize = 0;
@@ -115,7 +115,7 @@ fn tried<'a>(
     heads: &'a [u64; 128],
     positive: &'a [u64; 128],
     negated: &'a [u64; 128],
-    starts: &'a [usize; 10],
+    starts: &'a Starts,
     request: u8,
     shown: u16,
     members: &'a [u16; 16],
@@ -124,10 +124,10 @@ fn tried<'a>(
     key: u32,
     best: u32,
 ) -> u32
-    requires { ⌜ Placed (now heads) (now starts) × (count ≤ 3) ⌝ }
+    requires { ⌜ Placed levelCount (now heads) (now starts) × (count ≤ 3) ⌝ }
     ensures { λ r.
-        ⌜ Tried (opensAt (now (heads .entry)) (now (positive .entry)) (now (negated .entry)) (now (starts .entry)) request shown (now (members .entry)) count n)
-        key best r ⌝ }
+        ⌜ Tried (opensAt levelCount (now (heads .entry)) (now (positive .entry)) (now (negated .entry)) (now (starts .entry)) request shown
+        (now (members .entry)) count n) key best r ⌝ }
 {
     if best <= key {
         return best;

@@ -2,13 +2,17 @@
 use mathlib.Core.Path.{_∙_, _≡_, ap, refl}
 use mathlib.Core.Bool.{cond}
 use lib.Dec.{eqb}
+use Rattle.validation.specs.Unless.{Unless, given, withheld}
 use Rattle.atoms.proofs.MapLaws.{one-to-one}
 use Rattle.policy.proofs.TypeLaws as policy
-use Rattle.session.specs.Endings as E
-use Rattle.session.specs.Refusals as R
-use Rattle.session.specs.Rounds as O
-use Rattle.session.specs.Sessions as S
-use Rattle.session.specs.Types.{answerOf, endingOf, openedOf, outcomeOf, phaseOf, refusalOf, sessionOf, verdictOf}
+use Rattle.question.proofs.TheoremsProof.{question-back, questionBack}
+use Rattle.rounds.specs.Endings as E
+use Rattle.rounds.specs.Moves as M
+use Rattle.rounds.specs.Refusals as R
+use Rattle.rounds.specs.Rounds as O
+use Rattle.rounds.specs.Sessions as S
+use Rattle.session.specs.Types.{answerOf, endingOf, moveOf, openedOf, outcomeOf, phaseOf, refusalOf, sessionOf, verdictOf}
+use Rattle.session.specs.declared.Move.{Move}
 use Rattle.session.specs.declared.Opened.{Opened}
 use Rattle.session.specs.declared.Opened.the-variants as opened
 use Rattle.session.specs.declared.Outcome.{Outcome}
@@ -46,13 +50,13 @@ verdict-back Denied = refl
 
 phaseBack : S.Phase → Phase
 phaseBack S.fresh = Fresh
-phaseBack (S.waiting q) = Waiting (q .asks)
+phaseBack (S.waiting q) = Waiting (questionBack q)
 phaseBack (S.closed v) = Closed (verdictBack v)
 
 phase-back : (x : Phase) → phaseBack (phaseOf x) ≡ x
 unfolding phaseBack
 phase-back Fresh = refl
-phase-back (Waiting q) = refl
+phase-back (Waiting q) = ap Waiting (question-back q)
 phase-back (Closed v) = ap Closed (verdict-back v)
 
 pub sessionBack : S.Session → Session
@@ -66,17 +70,17 @@ session-back x =
 endingBack : E.Ending → Ending
 endingBack E.grant = Grant
 endingBack E.deny = Deny
-endingBack (E.ask q) = Ask (q .asks)
+endingBack (E.ask q) = Ask (questionBack q)
 
 ending-back : (x : Ending) → endingBack (endingOf x) ≡ x
 unfolding endingBack
 ending-back Grant = refl
 ending-back Deny = refl
-ending-back (Ask q) = refl
+ending-back (Ask q) = ap Ask (question-back q)
 
 answerBack : O.Answer → Answer
 answerBack (O.ends e) = Ends (endingBack e)
-answerBack (O.refuse f) = Refused (refusalBack f)
+answerBack (O.refused f) = Refused (refusalBack f)
 
 answer-back : (x : Answer) → answerBack (answerOf x) ≡ x
 unfolding answerBack
@@ -92,14 +96,24 @@ outcome-back x =
     ap (λ (a : Answer). record { answer = a; session = sessionBack (sessionOf (x .session)) }) (answer-back (x .answer))
     ∙ ap (λ (s : Session). record { answer = x .answer; session = s }) (session-back (x .session))
 
-openedBack : O.Opened → Opened
-openedBack (O.begins s) = opened.Fresh (sessionBack s)
-openedBack (O.refuses f) = opened.Refused (refusalBack f)
+openedBack : Unless R.Refusal S.Session → Opened
+openedBack (given s) = opened.Fresh (sessionBack s)
+openedBack (withheld f) = opened.Refused (refusalBack f)
 
 opened-back : (x : Opened) → openedBack (openedOf x) ≡ x
 unfolding openedBack
 opened-back (opened.Fresh s) = ap opened.Fresh (session-back s)
 opened-back (opened.Refused f) = ap opened.Refused (refusal-back f)
+
+moveBack : M.Move → Move
+moveBack m = record { shows = m .shows }
+
+move-back : (x : Move) → moveBack (moveOf x) ≡ x
+unfolding moveBack
+move-back x = refl
+
+pub move-one : (x y : Move) → moveOf x ≡ moveOf y → x ≡ y
+move-one = one-to-one moveOf moveBack move-back
 
 pub session-one : (x y : Session) → sessionOf x ≡ sessionOf y → x ≡ y
 session-one = one-to-one sessionOf sessionBack session-back

@@ -1,7 +1,3 @@
--- Sessions and rounds, in the order of reading.
-pub mod Refusals
-pub mod Endings
-pub mod Sessions
-pub mod Rounds
+-- What the program's sessions mean, in the order of reading.
 pub mod Types
 pub mod Theorems

@@ -1,11 +1,14 @@
 -- What the program's types mean: document 01's number and values for each case. Assumes nothing.
-use Prim.Native.Nat.{ℕ}
+use mathlib.Core.Option.{Option, none, some}
+use Rattle.validation.specs.Unless.{Unless, given, withheld}
 use Rattle.policy.specs.Types as policy
-use Rattle.preference.specs.Question as Q
-use Rattle.session.specs.Endings as E
-use Rattle.session.specs.Refusals as R
-use Rattle.session.specs.Rounds as O
-use Rattle.session.specs.Sessions as S
+use Rattle.question.specs.Types.{questionOf}
+use Rattle.rounds.specs.Endings as E
+use Rattle.rounds.specs.Moves as M
+use Rattle.rounds.specs.Refusals as R
+use Rattle.rounds.specs.Rounds as O
+use Rattle.rounds.specs.Sessions as S
+use Rattle.session.specs.declared.Move.{Move}
 use Rattle.session.specs.declared.Opened.{Opened}
 use Rattle.session.specs.declared.Opened.the-variants as opened
 use Rattle.session.specs.declared.Outcome.{Outcome}
@@ -14,12 +17,15 @@ use Rattle.session.specs.declared.Phase.the-variants.{Closed, Fresh, Wai
 use Rattle.session.specs.declared.Session.{Session}
 use Rattle.session.specs.declared.Verdict.{Verdict}
 use Rattle.session.specs.declared.Verdict.the-variants.{Denied, Granted}
+use Rattle.session.specs.declared.accepted.Working.{Working}
 use Rattle.session.specs.declared.answer.Answer.{Answer}
 use Rattle.session.specs.declared.answer.Answer.the-variants.{Ends, Refused}
 use Rattle.session.specs.declared.answer.Ending.{Ending}
 use Rattle.session.specs.declared.answer.Ending.the-variants.{Ask, Deny, Grant}
 use Rattle.session.specs.declared.refusal.Refusal.{Refusal}
 use Rattle.session.specs.declared.refusal.Refusal.the-variants as refusal
+use Rattle.session.specs.declared.tests.Admission.{Admission}
+use Rattle.session.specs.declared.tests.Admission.the-variants as tested
 
 -- "7: request outside 16 to 62", "8: session not sound.", "9: round in a sound closed session."
 abbrev pub refusalOf : Refusal → R.Refusal
@@ -32,10 +38,6 @@ refusalOf refusal.Closed = R.number 9
 abbrev pub verdictOf : Verdict → S.Verdict
 verdictOf Granted = S.granted
 verdictOf Denied = S.denied
-
--- the set asked for
-abbrev pub questionOf : ℕ → Q.Question
-questionOf q = record { asks = q }
 
 -- "fresh, waiting on a question Q, or closed with grant or deny"
 abbrev pub phaseOf : Phase → S.Phase
@@ -56,17 +58,26 @@ endingOf (Ask q) = E.ask (questionOf q)
 -- "A round is accepted if it ends in grant, deny or a question"; any other is refused
 abbrev pub answerOf : Answer → O.Answer
 answerOf (Ends e) = O.ends (endingOf e)
-answerOf (Refused f) = O.refuse (refusalOf f)
+answerOf (Refused f) = O.refused (refusalOf f)
 
 -- "A session goes into a round and comes out of it."
 abbrev pub outcomeOf : Outcome → O.Outcome
 outcomeOf o = record { answer = answerOf (o .answer); session = sessionOf (o .session) }
 
--- "opening gives only 7 and then no session"
-abbrev pub openedOf : Opened → O.Opened
-openedOf (opened.Fresh s) = O.begins (sessionOf s)
-openedOf (opened.Refused f) = O.refuses (refusalOf f)
+-- what the tests of a session say
+abbrev pub admissionOf : Admission → Option R.Refusal
+admissionOf tested.Accepted = none
+admissionOf (tested.Refused f) = some (refusalOf f)
 
--- the set that a round takes
-abbrev pub moveOf : ℕ → O.Move
-moveOf p = record { shows = p }
+-- the sets as a round updates them, and how it ends
+abbrev pub workingOf : Working → O.Working
+workingOf x = record { shown = x .shown; declined = x .declined; ended = endingOf (x .ended) }
+
+-- "opening gives only 7 and then no session"
+abbrev pub openedOf : Opened → Unless R.Refusal S.Session
+openedOf (opened.Fresh s) = given (sessionOf s)
+openedOf (opened.Refused f) = withheld (refusalOf f)
+
+-- "a set p of credentials"
+abbrev pub moveOf : Move → M.Move
+moveOf m = record { shows = m .shows }

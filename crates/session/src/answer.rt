@@ -1,12 +1,12 @@
 // What a round answers.
 use crate::refusal::Refusal;
+use question::Question;
 
 // How a round that is not refused ends.
 pub enum Ending {
     Grant,
     Deny,
-    // The set asked for.
-    Ask(u16),
+    Ask(Question),
 }
 
 // A round ends, or is refused.

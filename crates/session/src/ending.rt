@@ -2,19 +2,20 @@
 ghost use mathlib.Core.Path.{_≡_};
 ghost use mathlib.Core.Bool.{false};
 ghost use Rattle.atoms.specs.Sets.{difference};
-ghost use Rattle.policy.specs.WrittenForm.{WellFormed};
+ghost use Rattle.records.specs.Policies.{policyOf};
+ghost use Rattle.form.specs.WrittenForm.{WellFormed};
 ghost use Rattle.question.specs.Types.{foundOf};
-ghost use Rattle.session.specs.Endings.{conclude, ending, obtainable, policyOf};
-ghost use Rattle.session.specs.Rounds.{phaseAfter};
-ghost use Rattle.session.specs.Sessions.{Service};
+ghost use Rattle.rounds.specs.Endings.{conclude, ending, obtainable};
+ghost use Rattle.rounds.specs.Rounds.{phaseAfter};
+ghost use Rattle.rounds.specs.Sessions.{Service};
 ghost use Rattle.session.specs.Types.{endingOf, phaseOf};
 use crate::Phase;
 use crate::Verdict;
 use crate::answer::Ending;
 use atoms::AtomSet;
-use evaluation::layout::access_rules;
+use disclosure::disclosable_of;
 use evaluation::levels::unlocks;
-use model::disclosable_of;
+use layout::access_rules;
 use question::Found;
 use question::preferred;
 
@@ -37,12 +38,12 @@ pub(crate) fn ending(policy: &[u8], request: u16, shown: u16, declined: u16) -> 
     concluded(found)
 }
 
-// The preferred set is asked; where there is none, deny.
+// The preferred question is asked; where there is none, deny.
 fn concluded(found: Found) -> Ending
     ensures { λ r. ⌜ endingOf r ≡ conclude false (foundOf found) ⌝ }
 {
     match found {
-        Found::Set(asked) => Ending::Ask(asked),
+        Found::Preferred(question) => Ending::Ask(question),
         Found::Nothing => Ending::Deny,
     }
 }
@@ -70,6 +71,6 @@ pub(crate) fn phase_after(ending: Ending) -> Phase
     match ending {
         Ending::Grant => Phase::Closed(Verdict::Granted),
         Ending::Deny => Phase::Closed(Verdict::Denied),
-        Ending::Ask(asked) => Phase::Waiting(asked),
+        Ending::Ask(question) => Phase::Waiting(question),
     }
 }

@@ -1,27 +1,26 @@
 // Sessions: opening and rounds (document 01, "Sessions").
 ghost use mathlib.Core.Path.{_≡_};
-ghost use mathlib.Core.Bool.{false, true};
-ghost use Rattle.policy.specs.WrittenForm.{WellFormed};
-ghost use Rattle.session.specs.Endings.{policyOf};
-ghost use Rattle.session.specs.Rounds.{decided, opening, respond, round, sessionRefusal, turnedBack, worked};
-ghost use Rattle.session.specs.Sessions.{isClosed, isSound};
-ghost use Rattle.session.specs.Types.{moveOf, openedOf, outcomeOf, phaseOf, refusalOf, sessionOf};
+ghost use Rattle.records.specs.Policies.{policyOf};
+ghost use Rattle.form.specs.WrittenForm.{WellFormed};
+ghost use Rattle.rounds.specs.RoundTest.{sessionRefusal};
+ghost use Rattle.rounds.specs.Rounds.{opening, respond, round, turnedBack};
+ghost use Rattle.session.specs.Types.{moveOf, openedOf, outcomeOf, refusalOf, sessionOf};
+use accepted::accepted_round;
 use answer::Answer;
-use ending::ending;
-use ending::phase_after;
-use ending::without;
 use policy::Checked;
 use policy::check;
+use question::Question;
 use refusal::Refusal;
-use sound::is_closed;
 use sound::is_service;
-use sound::is_sound;
-use sound::question;
+use tests::Admission;
+use tests::test;
 
+mod accepted;
 pub mod answer;
 mod ending;
 pub mod refusal;
 mod sound;
+mod tests;
 
 // How a session ended.
 pub enum Verdict {
@@ -33,8 +32,7 @@ pub enum Verdict {
 pub enum Phase {
     // No round yet.
     Fresh,
-    // On a question: the set asked for.
-    Waiting(u16),
+    Waiting(Question),
     Closed(Verdict),
 }
 
@@ -45,6 +43,11 @@ pub struct Session {
     pub declined: u16,
     pub count: u8,
     pub phase: Phase,
+}
+
+// What a round takes beside the policy and the session: the credentials shown.
+pub struct Move {
+    pub shows: u16,
 }
 
 // A round's answer and the next session.
@@ -76,61 +79,30 @@ impl Session {
         })
     }
 
-    // A round in which credentials are shown: its answer and the next session, which is this one where the round is refused.
-    pub fn round(self, policy: &[u8], shown: u16) -> Outcome
-        ensures answer { λ r. ⌜ outcomeOf r ≡ round (now (policy .entry)) (sessionOf self) (moveOf shown) ⌝ }
+    // A round: its answer and the next session, which is this one where the round is refused.
+    pub fn round(self, policy: &[u8], taken: Move) -> Outcome
+        ensures answer { λ r. ⌜ outcomeOf r ≡ round (now (policy .entry)) (sessionOf self) (moveOf taken) ⌝ }
         ensures unchanged { λ _. ⌜ now (policy .exit) ≡ now (policy .entry) ⌝ }
     {
         let checked = check(policy);
         let Checked::Refused(refusal) = checked else {
-            return tested_round(self, policy, shown);
+            return tested_round(self, policy, taken);
         };
         refused(self, Refusal::Policy(refusal))
     }
 }
 
 // A round under an accepted policy: refused by the session, or worked out.
-fn tested_round(session: Session, policy: &[u8], shown: u16) -> Outcome
+fn tested_round(session: Session, policy: &[u8], taken: Move) -> Outcome
     requires { ⌜ WellFormed (now policy) ⌝ }
     ensures { λ r.
-        ⌜ outcomeOf r ≡ respond (sessionRefusal (sessionOf session)) (policyOf (now (policy .entry))) (sessionOf session) (moveOf shown) ⌝ }
+        ⌜ outcomeOf r ≡ respond (sessionRefusal (sessionOf session) (moveOf taken)) (policyOf (now (policy .entry))) (sessionOf session) (moveOf taken) ⌝ }
 {
-    if !is_service(session.request) {
-        return refused(session, Refusal::Request);
-    }
-    if !is_sound(session) {
-        return refused(session, Refusal::Unsound);
-    }
-    let phase = session.phase;
-    if is_closed(phase) {
-        return refused(session, Refusal::Closed);
-    }
-    open_round(session, policy, shown)
-}
-
-// A round of a sound open session under an accepted policy.
-fn open_round(session: Session, policy: &[u8], shown: u16) -> Outcome
-    requires { ⌜ WellFormed (now policy) × ((isSound (sessionOf session) ≡ true) × (isClosed (phaseOf (session .phase)) ≡ false)) ⌝ }
-    ensures { λ r.
-        ⌜ outcomeOf r ≡ decided (sessionOf session) (worked (policyOf (now (policy .entry))) (sessionOf session) (moveOf shown)) ⌝ }
-{
-    let request = session.request;
-    let phase = session.phase;
-    let asked = question(phase);
-    let shown_now = session.shown | shown;
-    let declined = session.declined | without(asked, shown);
-    let count = session.count + 1;
-    let ended = ending(policy, request, shown_now, declined);
-    Outcome {
-        answer: Answer::Ends(ended),
-        session: Session {
-            request,
-            shown: shown_now,
-            declined,
-            count,
-            phase: phase_after(ended),
-        },
-    }
+    let tested = test(session, taken);
+    let Admission::Refused(refusal) = tested else {
+        return accepted_round(session, policy, taken);
+    };
+    refused(session, refusal)
 }
 
 // The refusal, and the session as it came.

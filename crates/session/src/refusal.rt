@@ -1,6 +1,6 @@
 // Refusals of opening and of a round, and document 01's numbers for them.
 ghost use mathlib.Core.Path.{_≡_};
-ghost use Rattle.session.specs.Refusals.{refusalNumber};
+ghost use Rattle.rounds.specs.Refusals.{refusalNumber};
 ghost use Rattle.session.specs.Types.{refusalOf};
 
 // Why an opening or a round is refused.

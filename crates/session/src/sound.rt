@@ -1,12 +1,14 @@
 // Which sessions are sound.
 ghost use mathlib.Core.Path.{_≡_};
-ghost use Rattle.session.specs.Sessions.{countTest, fresh, isClosed, isService, isSound, phaseTest, question, questionTest, waiting};
-ghost use Rattle.session.specs.Types.{phaseOf, questionOf, sessionOf};
+ghost use Rattle.question.specs.Types.{questionOf};
+ghost use Rattle.rounds.specs.Sessions.{countTest, fresh, isClosed, isService, isSound, phaseTest, question, questionTest, waiting};
+ghost use Rattle.session.specs.Types.{phaseOf, sessionOf};
 use crate::Phase;
 use crate::Session;
 use atoms::AtomSet;
 use atoms::FIRST_DERIVED;
 use atoms::LAST_DERIVED;
+use question::Question;
 
 // 16 to 62.
 pub(crate) fn is_service(request: u16) -> bool
@@ -29,7 +31,7 @@ fn phase_fits(session: Session) -> bool
     let phase = session.phase;
     match phase {
         Phase::Fresh => is_untouched(session),
-        Phase::Waiting(asked) => waiting_fits(session, asked),
+        Phase::Waiting(question) => waiting_fits(session, question),
         Phase::Closed(_) => count_fits(session),
     }
 }
@@ -48,17 +50,18 @@ fn is_untouched(session: Session) -> bool
 }
 
 // The question, and the count.
-fn waiting_fits(session: Session, asked: u16) -> bool
-    ensures { λ r. ⌜ r ≡ phaseTest (sessionOf session) (waiting (questionOf asked)) ⌝ }
+fn waiting_fits(session: Session, question: Question) -> bool
+    ensures { λ r. ⌜ r ≡ phaseTest (sessionOf session) (waiting (questionOf question)) ⌝ }
 {
-    question_fits(session, asked) && count_fits(session)
+    question_fits(session, question) && count_fits(session)
 }
 
 // Not empty, and nothing of it shown or declined.
-fn question_fits(session: Session, asked: u16) -> bool
-    ensures { λ r. ⌜ r ≡ questionTest (sessionOf session) (questionOf asked) ⌝ }
+fn question_fits(session: Session, question: Question) -> bool
+    ensures { λ r. ⌜ r ≡ questionTest (sessionOf session) (questionOf question) ⌝ }
 {
-    asked != 0 && asked & (session.shown | session.declined) == 0
+    let asks = question.asks;
+    asks != 0 && asks & (session.shown | session.declined) == 0
 }
 
 // 1 to 1 plus the ones in the shown set joined with the declined set.
@@ -82,12 +85,12 @@ pub(crate) fn is_closed(phase: Phase) -> bool
 }
 
 // What is asked: nothing unless waiting.
-pub(crate) fn question(phase: Phase) -> u16
+pub(crate) fn question(phase: Phase) -> Question
     ensures { λ r. ⌜ questionOf r ≡ question (phaseOf phase) ⌝ }
 {
     match phase {
-        Phase::Fresh => 0,
-        Phase::Waiting(asked) => asked,
-        Phase::Closed(_) => 0,
+        Phase::Fresh => Question { asks: 0 },
+        Phase::Waiting(question) => question,
+        Phase::Closed(_) => Question { asks: 0 },
     }
 }

@@ -1,8 +1,8 @@
 // One vector: a set of credentials and a policy.
 ghost use Prim.Native.Nat.{_<_};
 use crate::print;
+use disclosure::Disclosed;
 use libc::STDIN_FILENO;
-use model::Disclosed;
 use model::Modelled;
 
 // Room for 127 records.
@@ -69,7 +69,7 @@ fn modelled(policy: &[u8], credentials: u16) {
 }
 
 fn disclosed(policy: &[u8], shown: u16) {
-    match model::disclosable(policy, shown) {
+    match disclosure::disclosable(policy, shown) {
         Disclosed::Set(set) => {
             print::disclosable(set);
         }

@@ -11,12 +11,12 @@ pub fn refusal_reply(refusal: Refusal) -> u32 {
     u32::from(refusal.number) | u32::from(refusal.record.unwrap_or(0)) << 8
 }
 
-/// "byte 1 is 1 for grant, 2 for deny, 3 for a question, and then bytes 2 and 3 are the set asked for"
+/// "byte 1 is 1 for grant, 2 for deny, 3 for a question"
 pub fn ending_reply(ending: Ending) -> u32 {
     match ending {
         Ending::Grant => 1 << 8,
         Ending::Deny => 2 << 8,
-        Ending::Ask(asked) => 3 << 8 | u32::from(asked) << 16,
+        Ending::Ask(_) => 3 << 8,
     }
 }
 

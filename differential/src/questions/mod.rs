@@ -1,21 +1,18 @@
 //! Rounds that are made so that the question has a given size among so many that may be asked.
 
-pub mod classes;
-pub mod numbers;
 mod rules;
 mod shapes;
 
-use crate::calls::{asked_of, ending_of, refusal_of, Call, Memory, ASK};
+use crate::calls::{asked_of, ending_of, refusal_of, Memory, ASK};
+use crate::candidates::{number, subset};
 use crate::counts::Kind;
 use crate::plain::disclosure::disclosable;
 use crate::plain::interface::{decode, encode};
 use crate::plain::session::{open, Phase, Session};
 use crate::policies;
+use crate::question_counts::classes::{classes, Round};
 use crate::random::Random;
-use crate::scenarios::still_sound;
 use crate::tester::Tester;
-use classes::{classes, Round};
-use numbers::{number, subset};
 use rules::{records, Sides, LEAST_SERVICE};
 use shapes::{wanted, Shape, SHAPES};
 
@@ -98,13 +95,12 @@ fn count_classes(tester: &mut Tester, memory: Memory) {
 
 /// One round, its question counted; the question and the memory after it, where there is one and the versions agree.
 fn round(tester: &mut Tester, p: u16, memory: Memory) -> Option<(u16, Memory)> {
-    let (reply, after) = tester.case(Kind::RoundQuestion, Call::Round(p), memory)?;
-    still_sound(tester, reply, Call::Round(p), after);
+    let (reply, after) = tester.round(Kind::RoundQuestion, p, memory)?;
     if refusal_of(reply) != 0 || ending_of(reply) != ASK {
         return None;
     }
     count_classes(tester, after);
-    Some((asked_of(reply), after))
+    Some((asked_of(after.session()), after))
 }
 
 /// A policy under which the sets of these numbers unlock, a session made for the round, and the round.

@@ -1,6 +1,6 @@
 //! A policy under which given sets unlock a service.
 
-use super::numbers::members;
+use crate::candidates::members;
 use crate::plain::policy::Record;
 use crate::policies::{access, disclosure};
 use crate::random::Random;

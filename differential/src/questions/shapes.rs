@@ -1,6 +1,6 @@
 //! Which candidates are to unlock, as numbers, so that the preferred one has a given size.
 
-use super::numbers::block;
+use crate::candidates::block;
 use crate::random::Random;
 
 /// How the sets that unlock lie to each other.

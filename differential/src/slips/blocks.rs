@@ -1,7 +1,7 @@
 //! Slips in a search that tries 256 candidates at a time, in order of cost. Candidates are numbers: bit j takes member j of D.
 
-use super::{Slip, Slipped};
-use crate::questions::numbers::members;
+use super::names::{Slip, Slipped};
+use crate::candidates::members;
 
 /// Of so many members the candidates are tried one at a time.
 const FEW: usize = 3;
@@ -9,7 +9,7 @@ const FEW: usize = 3;
 /// A cost and a number: what comes first is better.
 type Key = (u32, u16);
 
-/// "17 * (total weight) + ones", each weight 1.
+/// 17 times the total weight and the count of ones, each weight 1.
 fn cost(number: u16) -> u32 {
     17 * number.count_ones() + number.count_ones()
 }

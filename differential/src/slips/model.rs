@@ -1,6 +1,6 @@
 //! Slips in the model, in disclosure and in the question.
 
-use super::{Slip, Slipped};
+use super::names::{Slip, Slipped};
 use crate::plain::disclosure::disclosable;
 use crate::plain::policy::{level, Policy, Record};
 use crate::plain::session::Session;

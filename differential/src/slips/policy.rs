@@ -1,6 +1,6 @@
 //! Slips in the policy's test.
 
-use super::{Slip, Slipped};
+use super::names::{Slip, Slipped};
 use crate::plain::policy::{atoms, level, read, Policy, Record, Refusal};
 
 impl Slipped {

@@ -1,6 +1,6 @@
 //! Slips in sessions and rounds.
 
-use super::{Slip, Slipped};
+use super::names::{Slip, Slipped};
 use crate::calls::{Memory, PLACE};
 use crate::plain::interface::{decode, encode, ending_reply};
 use crate::plain::policy::{Policy, Refusal};
@@ -106,11 +106,24 @@ impl Slipped {
             return Err(Refusal::without_record(turned_back.unwrap_or(8)));
         };
         let (ending, next) = self.round(&rules, &session, p);
-        memory.set_session(encode(&next));
+        let mut bytes = encode(&next);
+        if self.is(Slip::AskedTurned) {
+            bytes.swap(8, 9);
+        }
+        memory.set_session(bytes);
         if self.is(Slip::GuardWritten) {
             memory.0[PLACE + 10] = 0;
         }
-        Ok(ending_reply(ending))
+        Ok(self.reply(ending))
+    }
+
+    fn reply(&self, ending: Ending) -> u32 {
+        match ending {
+            Ending::Ask(asked) if self.is(Slip::AskedInReply) => {
+                ending_reply(ending) | u32::from(asked) << 16
+            }
+            _ => ending_reply(ending),
+        }
     }
 
     pub(super) fn call_open(&self, request: u16, memory: &mut Memory) -> u32 {

@@ -2,9 +2,9 @@
 
 use super::plain::{answer, candidates, weight};
 use super::{Answer, Search};
+use crate::candidates::number;
 use crate::plain::model::unlocks;
 use crate::plain::policy::check;
-use crate::questions::numbers::number;
 
 pub const CLASSES: [&str; 17] = [
     "found",

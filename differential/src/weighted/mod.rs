@@ -1,9 +1,7 @@
 //! A search by weights against a limit, as the benchmark's own library has it (`probe_search`): what is asked and answered.
 
 pub mod counts;
-mod draw;
 pub mod plain;
-pub mod runs;
 pub mod slips;
 pub mod tuned;
 
@@ -29,8 +27,8 @@ pub enum Answer {
     Refused,
 }
 
-/// "bits 0..7: 0 found, 1 nothing (all tried), 2 spent (the limit reached first), 3 refused; bits 8..31: trials; bits 32..47: the
-/// set found"
+/// As `probe_search` replies: in bits 0 to 7 0 for found, 1 for nothing (all tried), 2 for spent (the limit reached first), 3 for
+/// refused; in bits 8 to 31 the trials; in bits 32 to 47 the set found.
 pub fn number(answer: Answer) -> u64 {
     match answer {
         Answer::Found { trials, set } => u64::from(set) << 32 | u64::from(trials) << 8,

@@ -13,7 +13,7 @@ pub fn weight(weights: &[u8; 16], set: u16) -> u32 {
         .sum()
 }
 
-/// The subsets but the empty one, "by least total weight, then fewest, then smallest number".
+/// The subsets but the empty one, by "the least total weight, then the fewest credentials, then the smallest number".
 pub fn candidates(weights: &[u8; 16], within: u16) -> Vec<u16> {
     let mut subsets: Vec<u16> = (1..=within).filter(|set| set & !within == 0).collect();
     subsets.sort_by_key(|set| (weight(weights, *set), set.count_ones(), *set));

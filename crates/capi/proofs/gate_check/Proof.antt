@@ -1,8 +1,6 @@
 -- `capi::gate_check` meets its contract: by the two answers of the policy's test. Assumes nothing.
-use mathlib.Core.Path.{_∙_, ap, refl, sym}
-use denote.Ref.{now}
-use Rattle.policy.specs.Types.{checkedOf}
-use Rattle.capi.proofs.CallLaws.{check-gives}
+use mathlib.Core.Path.{refl}
+use Rattle.packing.specs.Exports.{checkReply}
 use borrow.Author.Needs.{needs}
 use Rattle.capi.proofs.gate_check.Statement.{statement}
 use Rattle.capi.proofs.gate_check.Tie as tie
@@ -20,16 +18,12 @@ of-policy-requires : tie.Need-of-policy-requires
 of-policy-requires c κs = search needs
 
 returns : tie.Need-returns
-returns c =
-    let k = c .before .before in
-    let accepted = sym (ap checkedOf (c .enum-told .given .1)) ∙ k .check .ensures .0 in
-    (check-gives (now (k .before .before .args .policy)) _ accepted, refl)
+unfolding checkReply
+returns c = rw (← c .before .before .check .ensures .0, c .enum-told .given .1) (refl, refl)
 
 returns-2 : tie.Need-returns-2
-returns-2 c =
-    let k = c .before .before .before .before in
-    let refused = sym (ap checkedOf (c .before .before .refusal .given .1)) ∙ k .check .ensures .0 in
-    (c .of-policy .ensures ∙ check-gives (now (k .before .before .args .policy)) _ refused, refl)
+unfolding checkReply
+returns-2 c = rw (← c .before .before .before .before .check .ensures .0, c .before .before .refusal .given .1) (c .of-policy .ensures, refl)
 
 pub gate-check-spec : {M : Type 1} → statement M
 gate-check-spec =

@@ -1,8 +1,6 @@
 -- `capi::gate_open` meets its contract: by the two answers of opening. Assumes nothing.
-use mathlib.Core.Path.{_∙_, ap, sym}
-use denote.Ref.{now}
-use Rattle.session.specs.Types.{openedOf}
-use Rattle.capi.proofs.CallLaws.{open-gives}
+use mathlib.Core.Path.{refl}
+use Rattle.packing.specs.Exports.{openCall}
 use borrow.Author.Needs.{needs}
 use Rattle.capi.proofs.gate_open.Statement.{statement}
 use Rattle.capi.proofs.gate_open.Tie as tie
@@ -23,18 +21,12 @@ of-refusal-requires : tie.Need-of-refusal-requires
 of-refusal-requires c κs = search needs
 
 returns : tie.Need-returns
-returns c =
-    let k = c .before .before .before .before in
-    let a = k .before .args in
-    let is = open-gives (a .request) (now (a .session)) _ (sym (ap openedOf (c .before .before .fresh .given .1)) ∙ k .«open» .ensures) in
-    (ap (λ x. x .reply) is, c .pack .ensures ∙ ap (λ x. x .leaves) is)
+unfolding openCall
+returns c = rw (← c .before .before .before .before .«open» .ensures, c .before .before .fresh .given .1) (refl, c .pack .ensures)
 
 returns-2 : tie.Need-returns-2
-returns-2 c =
-    let k = c .before .before .before .before in
-    let a = k .before .args in
-    let is = open-gives (a .request) (now (a .session)) _ (sym (ap openedOf (c .before .before .refusal .given .1)) ∙ k .«open» .ensures) in
-    (c .of-refusal .ensures ∙ ap (λ x. x .reply) is, ap (λ x. x .leaves) is)
+unfolding openCall
+returns-2 c = rw (← c .before .before .before .before .«open» .ensures, c .before .before .refusal .given .1) (c .of-refusal .ensures, refl)
 
 pub gate-open-spec : {M : Type 1} → statement M
 gate-open-spec =

@@ -1,7 +1,4 @@
 -- `capi::no_session` meets its contract: by the two answers of the policy's test. Assumes nothing.
-use mathlib.Core.Path.{_∙_, ap, sym}
-use Rattle.policy.specs.Types.{checkedOf}
-use Rattle.capi.specs.Exports.{noSessionReply}
 use borrow.Author.Needs.{needs}
 use Rattle.capi.proofs.no_session.Statement.{statement}
 use Rattle.capi.proofs.no_session.Tie as tie
@@ -19,12 +16,10 @@ of-policy-requires : tie.Need-of-policy-requires
 of-policy-requires c κs = search needs
 
 returns : tie.Need-returns
-returns c = ap noSessionReply (sym (ap checkedOf (c .enum-told .given .1)) ∙ c .before .before .check .ensures .0)
+returns c = rw (← c .before .before .check .ensures .0, c .enum-told .given .1)
 
 returns-2 : tie.Need-returns-2
-returns-2 c =
-    let refused = sym (ap checkedOf (c .before .before .checked .given .1)) ∙ c .before .before .before .before .check .ensures .0 in
-    c .of-policy .ensures ∙ ap noSessionReply refused
+returns-2 c = rw (← c .before .before .before .before .check .ensures .0, c .before .before .checked .given .1) (c .of-policy .ensures)
 
 pub no-session-spec : {M : Type 1} → statement M
 no-session-spec =

@@ -2,11 +2,13 @@
 use mathlib.Core.Path.{_∙_, ap, sym}
 use denote.Ref.{now}
 use borrow.Author.Needs.{needs}
-use Rattle.atoms.proofs.ByteLaws.{slice-bytes}
+use Rattle.encoding.proofs.ByteLaws.{slice-bytes}
+use Rattle.validation.proofs.UnlessLaws.{unless-given, unless-withheld}
+use Rattle.form.proofs.AnswerLaws.{answered}
 use Rattle.policy.specs.Types.{checkedOf}
 use Rattle.model.specs.Answers.{modelAnswer}
 use Rattle.model.specs.Theorems.{GivesModel}
-use Rattle.model.proofs.AnswerLaws.{answered, answers-refused, answers-set, gives-model}
+use Rattle.model.proofs.AnswerLaws.{gives-model}
 use Rattle.model.proofs.model.Statement.{statement}
 use Rattle.model.proofs.model.Tie as tie
 
@@ -29,7 +31,7 @@ returns c =
     let bytes = now (k .before .args .policy) in
     let means = gives-model bytes (slice-bytes bytes (k .shared-slice-known .given)) (k .before .args .credentials) in
     let accepted = sym (c .before .before .before .check .ensures .0) ∙ ap checkedOf (c .before .enum-told .given .1) in
-    answered bytes _ (GivesModel bytes (k .before .args .credentials)) means _ (answers-set bytes _ accepted _ (c .model-of .ensures))
+    answered bytes _ (GivesModel bytes (k .before .args .credentials)) means _ (unless-given _ _ _ accepted (c .model-of .ensures))
 
 returns-2 : tie.Need-returns-2
 unfolding modelAnswer
@@ -38,7 +40,7 @@ returns-2 c =
     let bytes = now (k .before .args .policy) in
     let means = gives-model bytes (slice-bytes bytes (k .shared-slice-known .given)) (k .before .args .credentials) in
     let refused = sym (c .before .before .before .check .ensures .0) ∙ ap checkedOf (c .before .checked .given .1) in
-    answered bytes _ (GivesModel bytes (k .before .args .credentials)) means _ (answers-refused bytes _ _ refused)
+    answered bytes _ (GivesModel bytes (k .before .args .credentials)) means _ (unless-withheld _ _ _ refused)
 
 pub model-spec : {M : Type 1} → statement M
 model-spec = tie.close (tie.spec check-requires enum-known-checked enum-told model-of-requires returns returns-2)

@@ -1,9 +1,12 @@
 -- `model::model_of` meets its contract: the rules laid out by level have the model. Assumes nothing.
 use denote.Ref.{now}
 use borrow.Author.Needs.{needs}
-use Rattle.atoms.proofs.ByteLaws.{slice-bytes}
-use Rattle.evaluation.proofs.AccessLaws.{laid-model-at}
-use Rattle.evaluation.proofs.HeadLaws.{room-start}
+use Rattle.encoding.proofs.ByteLaws.{slice-bytes}
+use Rattle.records.specs.Levels.{level, levelCount}
+use Rattle.records.specs.Policies.{policyOf}
+use Rattle.arrays.proofs.HeadLaws.{room-start}
+use Rattle.arrays.proofs.ModelLaws.{laid-model-at}
+use Rattle.layout.proofs.AccessLaws.{access-levels}
 use Rattle.model.proofs.model_of.Statement.{statement}
 use Rattle.model.proofs.model_of.Tie as tie
 
@@ -21,8 +24,8 @@ returns c =
     let k = c .before .before .before .before .before .before .before .before .before .before in
     let bytes = now (k .before .args .policy) in
     let rules = c .before .before .before .before .before .before .access-rules in
-    laid-model-at bytes (slice-bytes bytes (k .shared-slice-known .given)) (k .before .pre) _ _ _ _ (rules .ensures) _ _ _
-    (c .before .before .before .before .before .credentials .ensures) (c .evaluate .ensures)
+    laid-model-at level levelCount (policyOf bytes .access) (access-levels bytes (slice-bytes bytes (k .shared-slice-known .given)) (k .before .pre)) _ _ _ _
+    (rules .ensures) _ _ _ (c .before .before .before .before .before .credentials .ensures) (c .evaluate .ensures)
 
 pub model-of-spec : {M : Type 1} → statement M
 model-of-spec = tie.close (tie.spec access-rules-requires credentials-requires evaluate-requires returns)

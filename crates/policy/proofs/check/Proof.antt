@@ -1,14 +1,15 @@
 -- `policy::check` meets its contract: at each `return` the tests that led there say which refusal is the first. Assumes nothing.
 use mathlib.Core.Path.{_≡_, refl, subst, sym}
-use mathlib.Core.Option.{Option, orElse}
+use mathlib.Core.Option.{Option}
 use denote.Ref.{now}
 use borrow.Author.Needs.{needs}
 use borrow.Author.Tests.{eq-eqb, le-leb, lt-leb, ne-eqb}
-use Rattle.atoms.proofs.ByteLaws.{slice-bytes}
-use Rattle.policy.specs.PolicyTest.{firstFailed, policyRefusal}
-use Rattle.policy.specs.Theorems.{Tested}
-use Rattle.policy.specs.WrittenForm.{Refusal}
-use Rattle.policy.proofs.RefusalLaws.{tested}
+use Rattle.encoding.proofs.ByteLaws.{slice-bytes}
+use Rattle.form.specs.PolicyTest.{policyRefusal}
+use Rattle.form.specs.Theorems.{Tested}
+use Rattle.form.specs.WrittenForm.{Refusal}
+use Rattle.form.proofs.RefusalLaws.{tested}
+use Rattle.policy.proofs.LoopLaws.{refusal-parts}
 use Rattle.policy.proofs.check.Statement.{statement}
 use Rattle.policy.proofs.check.Tie as tie
 
@@ -20,24 +21,21 @@ answered c o e =
     (e, (subst (Tested bytes) (sym e) (tested bytes (slice-bytes bytes (c .shared-slice-known .given))), refl))
 
 returns : tie.Need-returns
-unfolding policyRefusal firstFailed orElse
-returns c = answered (c .before) _ (simp (lt-leb _ 2304 (c .if1 .taken)))
+returns c = answered (c .before) _ (simp (refusal-parts, lt-leb _ 2304 (c .if1 .taken)))
 
 cast-whole : tie.Need-cast-whole
 cast-whole c = search needs
 
 returns-2 : tie.Need-returns-2
-unfolding policyRefusal firstFailed orElse
-returns-2 c = answered (c .before .before) _ (simp (le-leb _ 2304 (c .before .if1 .left), ne-eqb _ 0 (c .if2 .taken)))
+returns-2 c = answered (c .before .before) _ (simp (refusal-parts, le-leb _ 2304 (c .before .if1 .left), ne-eqb _ 0 (c .if2 .taken)))
 
 check-records-requires : tie.Need-check-records-requires
 check-records-requires c κs = search needs
 
 returns-3 : tie.Need-returns-3
-unfolding policyRefusal firstFailed orElse
 returns-3 c =
     answered (c .before .before .before) _
-    (simp (le-leb _ 2304 (c .before .before .if1 .left), eq-eqb _ 0 (c .before .if2 .left), c .check-records .ensures))
+    (simp (refusal-parts, le-leb _ 2304 (c .before .before .if1 .left), eq-eqb _ 0 (c .before .if2 .left), c .check-records .ensures))
 
 pub check-spec : {M : Type 1} → statement M
 check-spec = tie.close (tie.spec returns cast-whole returns-2 check-records-requires returns-3)

@@ -1,24 +1,25 @@
 -- `policy::check_records` meets its contract. The loop's invariant: the first refusal of all records is that of those that are left. The measure is
 -- their number. Assumes nothing.
 use mathlib.Core.Path.{_∙_, _≡_, ap, sym}
-use Prim.Native.Nat.{_-_, _≤_}
+use Prim.Native.Nat.{_-_, _≤_, ℕ}
 use denote.Ref.{now}
 use borrow.Author.Needs.{needs}
 use native.Mathlib.Omega.{arith}
-use Rattle.policy.specs.PolicyTest.{recordsRefusal}
+use Rattle.validation.specs.Tests.{firstFailed}
+use Rattle.form.specs.PolicyTest.{testsFrom}
 use Rattle.policy.specs.Types.{checkedOf}
-use Rattle.policy.proofs.LoopLaws.{records-done, records-kept, records-refused}
+use Rattle.policy.proofs.LoopLaws.{records-accepted, records-done, records-refused}
 use Rattle.policy.proofs.check_records.Statement.{statement}
 use Rattle.policy.proofs.check_records.Tie as tie
 
 abbrev Inv-loop : tie.InvT-loop
-Inv-loop policy records k₀ k = (k ≤ records) × (recordsRefusal policy 0 records ≡ recordsRefusal policy k (records - k))
+Inv-loop policy records k₀ k = (k ≤ records) × (firstFailed (testsFrom policy 0 records) ≡ firstFailed (testsFrom policy k (records - k)))
 
 abbrev μ-loop : tie.MeasureT-loop
 μ-loop policy records k₀ k = records - k
 
 loop-holds : tie.Need-loop-holds Inv-loop μ-loop
-loop-holds c = (omega arith, ap (recordsRefusal (now (c .before .args .policy)) 0) (omega arith))
+loop-holds c = (omega arith, ap (λ (n : ℕ). firstFailed (testsFrom (now (c .before .args .policy)) 0 n)) (omega arith))
 
 check-at-requires : tie.Need-check-at-requires Inv-loop μ-loop
 check-at-requires c κs = omega arith
@@ -51,7 +52,7 @@ loop-again c =
     let l = c .before .before .before .before .loop in (
       omega arith,
       l .inv .1
-          ∙ records-kept (now (a .policy)) (l .k) (a .records) (c .before .before .before .loop-test .taken)
+          ∙ records-accepted (now (a .policy)) (l .k) (a .records) (c .before .before .before .loop-test .taken)
           (sym (c .before .before .check-at .ensures) ∙ ap checkedOf (c .enum-told .given .1)),
     )
 

@@ -1,15 +1,15 @@
 -- `probe::accepted` meets its contract: the rules in arrays unlock what the policy's rules unlock. Assumes nothing.
 use mathlib.Core.Path.{_∙_}
 use denote.Ref.{now}
-use Rattle.atoms.proofs.ByteLaws.{slice-bytes}
-use Rattle.evaluation.proofs.HeadLaws.{room-start}
+use Rattle.encoding.proofs.ByteLaws.{slice-bytes}
+use Rattle.arrays.proofs.HeadLaws.{room-start}
 use Rattle.probe.proofs.ReplyLaws.{locked-alone, replies-locked, replies-open}
 use borrow.Author.Needs.{needs}
 use Rattle.probe.proofs.accepted.Statement.{statement}
 use Rattle.probe.proofs.accepted.Tie as tie
 
 access-rules-requires : tie.Need-access-rules-requires
-access-rules-requires c κs = (c .before .before .before .before .pre .0, room-start)
+access-rules-requires c κs = (c .before .before .before .before .pre .form, room-start)
 
 credentials-requires : tie.Need-credentials-requires
 credentials-requires c κs = search needs
@@ -24,7 +24,7 @@ returns c =
     let bytes = now (a .policy) in
     let rules = c .before .before .before .before .before .before .before .access-rules in
     let u = c .before .unlocks in
-    replies-open bytes (slice-bytes bytes (known .shared-slice-known .given)) (known .before .pre .0) _ _ _ _ (rules .ensures) (a .request) (a .shown) _ (c .before .before .before .before .before .before .credentials .ensures) (u .result) (u .ensures) (c .if1 .taken) _ _ _
+    replies-open bytes (slice-bytes bytes (known .shared-slice-known .given)) (known .before .pre .form) _ _ _ _ (rules .ensures) (a .request) (a .shown) _ (c .before .before .before .before .before .before .credentials .ensures) (u .result) (u .ensures) (c .if1 .taken) _ _ _
 
 found-requires : tie.Need-found-requires
 found-requires c κs =
@@ -33,8 +33,8 @@ found-requires c κs =
     let bytes = now (a .policy) in
     let rules = c .before .before .before .before .before .before .before .before .before .before .before .access-rules in
     let u = c .before .before .before .before .before .unlocks in
-    let alone = locked-alone bytes (slice-bytes bytes (known .shared-slice-known .given)) (known .before .pre .0) _ _ _ _ (rules .ensures) (a .request) (a .shown) _ (c .before .before .before .before .before .before .before .before .before .before .credentials .ensures) (u .result) (u .ensures) (c .before .before .before .before .if1 .left) in
-    ((rules .ensures .placed, (known .before .pre .1 .0, known .before .pre .1 .1)), alone)
+    let alone = locked-alone bytes (slice-bytes bytes (known .shared-slice-known .given)) (known .before .pre .form) _ _ _ _ (rules .ensures) (a .request) (a .shown) _ (c .before .before .before .before .before .before .before .before .before .before .credentials .ensures) (u .result) (u .ensures) (c .before .before .before .before .if1 .left) in
+    record { placed = rules .ensures .placed; atom = known .before .pre .atom; apart = known .before .pre .apart; alone = alone }
 
 returns-2 : tie.Need-returns-2
 returns-2 c =
@@ -43,7 +43,7 @@ returns-2 c =
     let bytes = now (a .policy) in
     let rules = c .before .before .before .before .before .before .before .before .before .before .before .before .access-rules in
     let u = c .before .before .before .before .before .before .unlocks in
-    c .found .ensures ∙ replies-locked bytes (slice-bytes bytes (known .shared-slice-known .given)) (known .before .pre .0) _ _ _ _ (rules .ensures) (a .request) (a .shown) _ (c .before .before .before .before .before .before .before .before .before .before .before .credentials .ensures) (u .result) (u .ensures) (c .before .before .before .before .before .if1 .left) _ _ _
+    c .found .ensures ∙ replies-locked bytes (slice-bytes bytes (known .shared-slice-known .given)) (known .before .pre .form) _ _ _ _ (rules .ensures) (a .request) (a .shown) _ (c .before .before .before .before .before .before .before .before .before .before .before .credentials .ensures) (u .result) (u .ensures) (c .before .before .before .before .before .if1 .left) _ _ _
 
 pub accepted-spec : {M : Type 1} → statement M
 accepted-spec =

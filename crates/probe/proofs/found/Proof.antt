@@ -3,6 +3,7 @@ use mathlib.Core.Path.{_∙_, ap}
 use lib.Pow.{pow-pos}
 use native.Mathlib.Omega.{arith}
 use Rattle.atoms.specs.Sets.{size}
+use Rattle.records.specs.Levels.{levelCount}
 use Rattle.search.specs.Types.{resultOf}
 use Rattle.question.proofs.AskedLaws.{counted, locked}
 use Rattle.probe.proofs.ReplyLaws.{replies-found, within-limit}
@@ -28,9 +29,11 @@ first-requires c κs =
     let a = s .args in
     let listed = c .before .before .before .write-members .ensures in
     let sized = c .before .count .ensures ∙ ap size (c .before .before .credentials .ensures) in
-    let all = counted (a .heads .now) (a .positive .now) (a .negated .now) (a .starts .now) (a .request) (a .shown) (a .within) (s .fits .within .fits) (s .pre .0 .1 .1) _ listed _ sized in
-    let alone = locked (a .heads .now) (a .positive .now) (a .negated .now) (a .starts .now) (a .request) (a .shown) (a .within) (s .fits .within .fits) (s .pre .0 .1 .1) _ listed _ sized (s .pre .1) in
-    ((s .pre .0 .0, (s .pre .0 .1 .0, all)), alone)
+    let all = counted levelCount (a .heads .now) (a .positive .now) (a .negated .now) (a .starts .now) (a .request) (a .shown) (a .within)
+    (s .fits .within .fits) (s .pre .apart) _ listed _ sized in
+    let alone = locked levelCount (a .heads .now) (a .positive .now) (a .negated .now) (a .starts .now) (a .request) (a .shown) (a .within)
+    (s .fits .within .fits) (s .pre .apart) _ listed _ sized (s .pre .alone) in
+    (record { placed = s .pre .placed; atom = s .pre .atom; switches = all }, alone)
 
 reply-requires : tie.Need-reply-requires
 reply-requires c κs =
@@ -38,7 +41,8 @@ reply-requires c κs =
     let a = s .args in
     let listed = c .before .before .before .before .before .write-members .ensures in
     let sized = c .before .before .before .count .ensures ∙ ap size (c .before .before .before .before .credentials .ensures) in
-    let all = counted (a .heads .now) (a .positive .now) (a .negated .now) (a .starts .now) (a .request) (a .shown) (a .within) (s .fits .within .fits) (s .pre .0 .1 .1) _ listed _ sized in
+    let all = counted levelCount (a .heads .now) (a .positive .now) (a .negated .now) (a .starts .now) (a .request) (a .shown) (a .within)
+    (s .fits .within .fits) (s .pre .apart) _ listed _ sized in
     let few = within-limit _ _ _ _ (pow-pos _) (resultOf (c .before .first .result)) (c .before .first .ensures) in
     (all .0, omega (arith, s .fits .limit .fits))
 
@@ -49,7 +53,8 @@ returns c =
     let listed = c .before .before .before .before .before .before .write-members .ensures in
     let sized = c .before .before .before .before .count .ensures ∙ ap size (c .before .before .before .before .before .credentials .ensures) in
     c .reply .ensures
-    ∙ replies-found (a .heads .now) (a .positive .now) (a .negated .now) (a .starts .now) (a .request) (a .shown) (a .within) (s .fits .within .fits) (s .pre .0 .1 .1) _ listed _ sized _ _ _ (c .before .before .first .ensures)
+    ∙ replies-found levelCount (a .heads .now) (a .positive .now) (a .negated .now) (a .starts .now) (a .request) (a .shown) (a .within)
+    (s .fits .within .fits) (s .pre .apart) _ listed _ sized _ _ _ (c .before .before .first .ensures)
 
 pub found-spec : {M : Type 1} → statement M
 found-spec =

@@ -51,7 +51,7 @@ accepted-requires : tie.Need-accepted-requires
 accepted-requires c κs =
     let a = c .before .before .before .before .before .before .before .args in
     let formed = c .before .before .before .before .before .check .ensures .1 .0 .accepts .0 (ap checkedOf (c .before .before .before .enum-told .given .1)) in
-    (formed, (omega (arith, c .before .if2 .left), rest-apart (a .within) (a .shown) _ (c .without .ensures)))
+    record { form = formed; atom = omega (arith, c .before .if2 .left); apart = rest-apart (a .within) (a .shown) _ (c .without .ensures) }
 
 returns-4 : tie.Need-returns-4
 returns-4 c =

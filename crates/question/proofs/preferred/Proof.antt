@@ -1,6 +1,7 @@
 -- `question::preferred` meets its contract. Assumes nothing.
 use mathlib.Core.Path.{_∙_, ap}
 use Rattle.atoms.specs.Sets.{size}
+use Rattle.records.specs.Levels.{levelCount}
 use Rattle.question.proofs.AskedLaws.{answered, counted, locked}
 use borrow.Author.Needs.{needs}
 use Rattle.question.proofs.preferred.Statement.{statement}
@@ -20,30 +21,39 @@ cast-count c = search needs
 
 first-requires : tie.Need-first-requires
 first-requires c κs =
-    let s = c .before .before .before .before .before .before in (
-      (
-        s .pre .0 .0,
-        (
-          s .pre .0 .1 .0,
-          counted (s .args .heads .now) (s .args .positive .now) (s .args .negated .now) (s .args .starts .now) (s .args .request) (s .args .shown) (s .args .within)
-              (s .fits .within .fits) (s .pre .0 .1 .1) _ (c .before .before .before .before .write-members .ensures) _ (c .before .before .count .ensures ∙ ap size (c .before .before .before .credentials .ensures)),
-        ),
-      ),
-      locked (s .args .heads .now) (s .args .positive .now) (s .args .negated .now) (s .args .starts .now) (s .args .request) (s .args .shown) (s .args .within)
-          (s .fits .within .fits) (s .pre .0 .1 .1) _ (c .before .before .before .before .write-members .ensures) _ (c .before .before .count .ensures ∙ ap size (c .before .before .before .credentials .ensures)) (s .pre .1),
+    let s = c .before .before .before .before .before .before in
+    let a = s .args in
+    let members = c .before .before .before .before .write-members .ensures in
+    let many = c .before .before .count .ensures ∙ ap size (c .before .before .before .credentials .ensures) in (
+      record {
+        placed = s .pre .placed;
+        atom = s .pre .atom;
+        switches =
+            counted levelCount (a .heads .now) (a .positive .now) (a .negated .now) (a .starts .now) (a .request) (a .shown) (a .within)
+            (s .fits .within .fits) (s .pre .apart) _ members _ many;
+      },
+      locked levelCount (a .heads .now) (a .positive .now) (a .negated .now) (a .starts .now) (a .request) (a .shown) (a .within)
+          (s .fits .within .fits) (s .pre .apart) _ members _ many (s .pre .alone),
     )
 
 asked-requires : tie.Need-asked-requires
 asked-requires c κs =
     let s = c .before .before .before .before .before .before .before .before in
-    counted (s .args .heads .now) (s .args .positive .now) (s .args .negated .now) (s .args .starts .now) (s .args .request) (s .args .shown) (s .args .within)
-    (s .fits .within .fits) (s .pre .0 .1 .1) _ (c .before .before .before .before .before .before .write-members .ensures) _ (c .before .before .before .before .count .ensures ∙ ap size (c .before .before .before .before .before .credentials .ensures)) .0
+    let a = s .args in
+    let members = c .before .before .before .before .before .before .write-members .ensures in
+    let many = c .before .before .before .before .count .ensures ∙ ap size (c .before .before .before .before .before .credentials .ensures) in
+    counted levelCount (a .heads .now) (a .positive .now) (a .negated .now) (a .starts .now) (a .request) (a .shown) (a .within)
+    (s .fits .within .fits) (s .pre .apart) _ members _ many .0
 
 returns : tie.Need-returns
-returns c =
+returns c pol =
     let s = c .before .before .before .before .before .before .before .before .before in
-    c .asked .ensures ∙ answered (s .args .heads .now) (s .args .positive .now) (s .args .negated .now) (s .args .starts .now) (s .args .request) (s .args .shown) (s .args .within)
-    (s .fits .within .fits) (s .pre .0 .1 .1) _ (c .before .before .before .before .before .before .before .write-members .ensures) _ (c .before .before .before .before .before .count .ensures ∙ ap size (c .before .before .before .before .before .before .credentials .ensures)) (c .before .before .first .result) (c .before .before .first .ensures)
+    let a = s .args in
+    let members = c .before .before .before .before .before .before .before .write-members .ensures in
+    let many = c .before .before .before .before .before .count .ensures ∙ ap size (c .before .before .before .before .before .before .credentials .ensures) in
+    c .asked .ensures
+    ∙ answered levelCount (a .heads .now) (a .positive .now) (a .negated .now) (a .starts .now) (a .request) (a .shown) (a .within)
+    (s .fits .within .fits) (s .pre .apart) _ members _ many (c .before .before .first .result) (c .before .before .first .ensures) pol
 
 pub preferred-spec : {M : Type 1} → statement M
 preferred-spec =

@@ -7,8 +7,8 @@ use denote.Ref.{now}
 use borrow.Author.Needs.{needs}
 use borrow.Author.Tests.{le-leb, lt-leb}
 use native.Mathlib.Omega.{arith}
-use Rattle.atoms.specs.LittleEndian.{littleEndian, wordOf}
-use Rattle.atoms.proofs.ByteLaws.{word-is}
+use Rattle.encoding.proofs.ByteLaws.{word-is}
+use Rattle.encoding.specs.LittleEndian.{littleEndian, wordOf}
 use Rattle.records.specs.Records.{readRecord}
 use Rattle.records.proofs.read_record.Statement.{statement}
 use Rattle.records.proofs.read_record.Tie as tie

@@ -2,8 +2,8 @@
 use denote.Ref.{now}
 use borrow.Author.Needs.{needs}
 use native.Mathlib.Omega.{arith}
+use Rattle.records.specs.Levels.{levelCount}
 use Rattle.relevance.proofs.AnswerLaws.{same-answer}
-use Rattle.relevance.proofs.StartLaws.{start-fits}
 use Rattle.relevance.proofs.relevant_rules.Statement.{statement}
 use Rattle.relevance.proofs.relevant_rules.Tie as tie
 
@@ -13,7 +13,7 @@ element-copy-out-count c = search needs
 relevant-requires : tie.Need-relevant-requires
 relevant-requires c κs =
     let s = c .before in
-    (start-fits (now (s .args .starts)) (s .pre .ordered) 9 (omega arith), s .pre .singles)
+    record { ordered = omega arith; fits = s .pre .ordered .fits; singles = s .pre .singles }
 
 kept-rules-requires : tie.Need-kept-rules-requires
 kept-rules-requires c κs = c .before .before .pre
@@ -23,7 +23,7 @@ returns c =
     let s = c .before .before .before in
     let a = s .args in
     let r = c .kept-rules .result in
-    same-answer (now (a .heads)) (now (a .positive)) (now (a .negated)) (now (a .starts)) (s .pre) (c .before .relevant .result .bits) (a .request)
+    same-answer levelCount (now (a .heads)) (now (a .positive)) (now (a .negated)) (now (a .starts)) (s .pre) (c .before .relevant .result .bits) (a .request)
     (c .before .relevant .ensures) (r .heads) (r .positive) (r .negated) (r .starts) (c .kept-rules .ensures)
 
 pub relevant-rules-spec : {M : Type 1} → statement M

@@ -16,7 +16,7 @@ returns c =
     let a = c .before .before .before .before .before .before .before .args in
     let rules = c .before .before .before .before .before .before .relevant-rules in
     c .by-blocks .ensures
-    ∙ answer-relevant _ (a .heads .now) (a .positive .now) (a .negated .now) (a .starts .now) _ _ _ _ (rules .ensures) (a .weights .now) (a .shown) (a .members .now) (a .count)
+    ∙ answer-relevant _ _ (a .heads .now) (a .positive .now) (a .negated .now) (a .starts .now) _ _ _ _ (rules .ensures) (a .weights .now) (a .shown) (a .members .now) (a .count)
     (a .limit)
 
 pub by-relevant-rules-spec : {M : Type 1} → statement M

@@ -20,7 +20,7 @@ returns : tie.Need-returns
 returns c =
     let s = c .before .before .before in
     c .nothing .ensures
-    ∙ answer-zero _ _ _ _ _ (pow-pos (s .args .count)) (c .before .before .if1 .taken) (s .pre .1) (omega (arith, c .before .candidates .ensures .0))
+    ∙ answer-zero _ _ _ _ _ (pow-pos (s .args .count)) (c .before .before .if1 .taken) (s .pre .1) (omega (arith, c .before .candidates .ensures .power))
 
 one-by-one-requires : tie.Need-one-by-one-requires
 one-by-one-requires c κs = search needs

@@ -35,9 +35,9 @@ fn question_row(what: &str, input: &Input) -> Option<Row> {
     let policy = input.policy.clone();
     let mut fresh = [0; 10];
     fresh[..2].copy_from_slice(&input.request.to_le_bytes());
-    let reply = gate::round(&policy, &mut fresh.clone(), 0);
-    let wanted = match ending_of(reply) {
-        ASK => Some(asked_of(reply).into()),
+    let mut session = fresh;
+    let wanted = match ending_of(gate::round(&policy, &mut session, 0)) {
+        ASK => Some(asked_of(session).into()),
         DENY => None,
         _ => return None,
     };

@@ -18,7 +18,7 @@ use differential::scenarios::scenario;
 use differential::slips::{Slipped, SLIPS};
 use differential::tester::Tester;
 use differential::tuned::Tuned;
-use differential::weighted::runs::weighted_runs;
+use differential::weighted_runs::weighted_runs;
 use std::io::IsTerminal;
 use std::process::ExitCode;
 use std::sync::atomic::{AtomicBool, Ordering};
@@ -96,12 +96,6 @@ fn progress(shared: &Shared, done: &AtomicBool) {
     }
 }
 
-pub(crate) fn shared(options: &Options, quiet: bool) -> Shared {
-    let folder = options.root.join("target/differential");
-    let bench = options.root.join("target/bin/bench");
-    Shared::new(folder, bench, quiet)
-}
-
 /// The tests of the gate: the joint counts of all threads.
 fn run_threads(shared: &Shared, options: &Options) -> Result<Counts, String> {
     let done = AtomicBool::new(false);
@@ -161,7 +155,7 @@ fn test_gate(options: &Options) -> Result<bool, String> {
     if options.slip == 0 {
         test_marked(options)?;
     }
-    let shared = shared(options, false);
+    let shared = Shared::new(&options.root, false);
     let total = run_threads(&shared, options)?;
     let seconds = start.elapsed().as_secs_f64();
     println!("seed {}, threads {}", options.seed, options.threads);

@@ -1,14 +1,13 @@
 //! The tests against wrong versions: each must be found out.
 
-use crate::shared;
 use differential::options::Options;
 use differential::random::Random;
 use differential::report::Shared;
 use differential::scenarios::scenario;
 use differential::slips::{Slip, Slipped, CONTROLS, SLIPS};
 use differential::tester::Tester;
-use differential::weighted::runs::found_out;
 use differential::weighted::slips::{Slip as SearchSlip, SLIPS as SEARCH_SLIPS};
+use differential::weighted_runs::found_out;
 use std::sync::atomic::{AtomicUsize, Ordering};
 use std::sync::Mutex;
 use std::thread;
@@ -38,7 +37,10 @@ fn first(cases: u64, tester: &mut Tester) -> Option<u64> {
 }
 
 fn find_out(options: &Options, slip: Slip) -> Found {
-    let (one, other) = (shared(options, true), shared(options, true));
+    let (one, other) = (
+        Shared::new(&options.root, true),
+        Shared::new(&options.root, true),
+    );
     let mut compared = tester_of(options, slip, &one);
     let mut alone = tester_of(options, slip, &other).compared_with(Box::new(Slipped(slip)));
     Found {

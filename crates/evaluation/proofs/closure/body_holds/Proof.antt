@@ -4,7 +4,7 @@ use Prim.Native.Nat.{ℕ}
 use lib.Dec.{eqb}
 use borrow.Author.Needs.{needs}
 use Rattle.atoms.specs.Sets.{union}
-use Rattle.evaluation.proofs.HeadLaws.{nothing-amiss}
+use Rattle.evaluation.proofs.BodyLaws.{nothing-amiss}
 use Rattle.evaluation.proofs.closure.body_holds.Statement.{statement}
 use Rattle.evaluation.proofs.closure.body_holds.Tie as tie
 

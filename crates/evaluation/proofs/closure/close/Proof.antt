@@ -7,7 +7,7 @@ use borrow.Author.Needs.{needs}
 use native.Mathlib.Omega.{arith}
 use Rattle.atoms.specs.Sets.{size}
 use Rattle.rules.proofs.LoopLaws.{pass-adds, pass-again, pass-idle, reached}
-use Rattle.evaluation.specs.Arrays.{rulesIn}
+use Rattle.arrays.specs.Arrays.{rulesIn}
 use Rattle.evaluation.proofs.closure.close.Statement.{statement}
 use Rattle.evaluation.proofs.closure.close.Tie as tie
 

@@ -1,27 +1,26 @@
 -- `evaluation::closure::pass` meets its contract. The loop's invariant: what is left of the rules makes of the set what all of them make of the first
 -- one. Assumes nothing.
 use mathlib.Core.Path.{_≡_, refl}
-use Prim.Native.Nat.{_-_, _≤_}
+use Prim.Native.Nat.{_-_}
 use denote.Ref.{now}
 use borrow.Author.Needs.{needs}
 use native.Mathlib.Omega.{arith}
 use Rattle.rules.specs.LevelByLevel.{passOver}
-use Rattle.evaluation.specs.Arrays.{rulesIn}
-use Rattle.evaluation.proofs.ArrayLaws.{pass-done-at, pass-next-at}
+use Rattle.arrays.specs.Arrays.{rulesIn}
+use Rattle.arrays.proofs.ArrayLaws.{pass-done-at, pass-next-at}
 use Rattle.evaluation.proofs.closure.pass.Statement.{statement}
 use Rattle.evaluation.proofs.closure.pass.Tie as tie
 
 abbrev Inv-loop : tie.InvT-loop
 Inv-loop heads positive negated from to below reached₀ k₀ reached k =
-    (from ≤ k) × ((k ≤ to)
-    × (passOver (below .bits) (rulesIn heads positive negated k (to - k)) (reached .bits)
-    ≡ passOver (below .bits) (rulesIn heads positive negated from (to - from)) (reached₀ .bits)))
+    passOver (below .bits) (rulesIn heads positive negated k (to - k)) (reached .bits)
+    ≡ passOver (below .bits) (rulesIn heads positive negated from (to - from)) (reached₀ .bits)
 
 abbrev μ-loop : tie.MeasureT-loop
 μ-loop heads positive negated from to below reached₀ k₀ reached k = to - k
 
 loop-holds : tie.Need-loop-holds Inv-loop μ-loop
-loop-holds c = (omega arith, (omega arith, refl))
+loop-holds c = refl
 
 mul-all : tie.Need-mul-all Inv-loop μ-loop
 mul-all c = search needs
@@ -48,21 +47,16 @@ loop-again : tie.Need-loop-again Inv-loop μ-loop
 loop-again c =
     let a = c .before .before .before .before .before .args in
     let l = c .before .before .before .before .loop in
-    let head = c .before .before .before .before .before .pre .1 .1 (l .k) (omega arith) in (
-      omega arith,
-      (
-        omega arith,
-        pass-next-at (now (a .heads)) (now (a .positive)) (now (a .negated)) (l .k) (a .to) (c .before .before .before .loop-test .taken)
-            head (a .below .bits) (l .reached .bits) (c .fire .result .bits) _ (c .fire .ensures) (l .inv .1 .1),
-      ),
-    )
+    let head = c .before .before .before .before .before .pre .singles (l .k) (omega arith) in
+    pass-next-at (now (a .heads)) (now (a .positive)) (now (a .negated)) (l .k) (a .to) (c .before .before .before .loop-test .taken) head
+    (a .below .bits) (l .reached .bits) (c .fire .result .bits) _ (c .fire .ensures) (l .inv)
 
 returns : tie.Need-returns Inv-loop μ-loop
 returns c =
     let a = c .before .before .args in
     let l = c .before .loop in
     pass-done-at (now (a .heads)) (now (a .positive)) (now (a .negated)) (l .k) (a .to) (c .loop-test .left)
-    (a .below .bits) (l .reached .bits) _ (l .inv .1 .1)
+    (a .below .bits) (l .reached .bits) _ (l .inv)
 
 pub pass-spec : {M : Type 1} → statement M
 pass-spec =

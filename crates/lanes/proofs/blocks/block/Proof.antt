@@ -10,7 +10,7 @@ fill-requires : tie.Need-fill-requires
 fill-requires c κs = (refl, zeros 768)
 
 switch-requires : tie.Need-switch-requires
-switch-requires c κs = ((c .before .before .before .pre .1 .1, c .before .fill .ensures .0), covers-base _ _ (c .before .fill .ensures .1))
+switch-requires c κs = ((c .before .before .before .pre .switches, c .before .fill .ensures .0), covers-base _ _ (c .before .fill .ensures .1))
 
 evaluate-requires : tie.Need-evaluate-requires
 evaluate-requires c κs = search needs
@@ -35,7 +35,7 @@ returns c =
     let done = c .before .before .before .before .before .before in
     let tried = done .before .before in
     let filled = tried .before .before in
-    unlocking _ _ _ _ _ _ _ _ _ _ _ _ _ _ _ _ (filled .before .before .pre .1 .0) (filled .fill .ensures .1) (tried .switch .ensures .0) (done .evaluate .ensures)
+    unlocking _ _ _ _ _ _ _ _ _ _ _ _ _ _ _ _ _ (filled .before .before .pre .atom) (filled .fill .ensures .1) (tried .switch .ensures .0) (done .evaluate .ensures)
     (c .before .before .before .before .load .ensures) (c .before .before .load2 .ensures) (c .before .complement .ensures) (c .intersection .ensures)
 
 pub block-spec : {M : Type 1} → statement M

@@ -1,23 +1,21 @@
 -- `lanes::candidates::switch` meets its contract: the members before j are switched. Assumes nothing.
 use mathlib.Core.Path.{_≡_}
-use Prim.Native.Nat.{_-_, _≤_}
+use Prim.Native.Nat.{_-_}
 use borrow.Author.Needs.{needs}
 use native.Mathlib.Omega.{arith}
-use Rattle.lanes.specs.Candidates.{Switched}
-use Rattle.lanes.specs.Passes.{Covers}
 use Rattle.lanes.proofs.LowestLaws.{one-fits, one-small}
-use Rattle.lanes.proofs.SwitchingLaws.{noted-next, switching-first, switching-next}
+use Rattle.lanes.proofs.SwitchingLaws.{Switching, noted-next, switching-first, switching-next}
 use Rattle.lanes.proofs.candidates.switch.Statement.{statement}
 use Rattle.lanes.proofs.candidates.switch.Tie as tie
 
 abbrev Inv-loop : tie.InvT-loop
-Inv-loop table₀ members count b possible reached₀ j₀ table reached j = (j ≤ count) × (Switched members j b table₀ table × Covers reached table)
+Inv-loop table₀ members count b possible reached₀ j₀ table reached j = Switching members count b table₀ table reached j
 
 abbrev μ-loop : tie.MeasureT-loop
 μ-loop table₀ members count b possible reached₀ j₀ table reached j = count - j
 
 loop-holds : tie.Need-loop-holds Inv-loop μ-loop
-loop-holds c = (omega arith, (switching-first _ _ _ (c .pre .0 .1), c .pre .1))
+loop-holds c = record { low = omega arith; done = switching-first _ _ _ (c .pre .0 .1); covers = c .pre .1 }
 
 mul-member : tie.Need-mul-member Inv-loop μ-loop
 mul-member c = omega arith
@@ -43,7 +41,7 @@ symmetric-difference-requires c κs = search needs
 store-requires : tie.Need-store-requires Inv-loop μ-loop
 store-requires c κs =
     let l = c .before .before .before .before .before .before .before in
-    (omega (arith, one-fits _ (l .before .pre .0 .0 .1 (l .loop .j) (omega arith))), l .loop .inv .1 .0 .long)
+    (omega (arith, one-fits _ (l .before .pre .0 .0 .1 (l .loop .j) (omega arith))), l .loop .inv .done .long)
 
 note-requires : tie.Need-note-requires Inv-loop μ-loop
 note-requires c κs = search needs
@@ -61,18 +59,18 @@ loop-again c =
     let old = c .before .before .before .before .before .load .ensures in
     let which = c .before .before .before .before .takers .ensures in
     let row = c .before .before .before .symmetric-difference .ensures in
-    let stores = c .before .store .ensures in (
-      omega arith,
-      (
-        switching-next _ (l .loop .j) _ _ _ _ _ _ _ one (l .loop .inv .1 .0) old which row stores,
-        noted-next _ (l .loop .j) _ _ _ _ _ _ _ one (l .loop .inv .1 .0) old which row stores _ _ (l .loop .inv .1 .1) (c .note .ensures),
-      ),
-    )
+    let stores = c .before .store .ensures in
+    let v = l .loop .inv in
+    record {
+      low = omega arith;
+      done = switching-next _ (l .loop .j) _ _ _ _ _ _ _ one (v .done) old which row stores;
+      covers = noted-next _ (l .loop .j) _ _ _ _ _ _ _ one (v .done) old which row stores _ _ (v .covers) (c .note .ensures);
+    }
 
 returns : tie.Need-returns Inv-loop μ-loop
 returns c =
     let e : c .before .loop .j ≡ c .before .before .args .count = omega arith in
-    (rw (← e) (c .before .loop .inv .1 .0), c .before .loop .inv .1 .1)
+    (rw (← e) (c .before .loop .inv .done), c .before .loop .inv .covers)
 
 pub switch-spec : {M : Type 1} → statement M
 switch-spec =

@@ -1,8 +1,7 @@
 -- `lanes::levels::close` meets its contract: what passes reach does not change, and is reached with the first that is idle.
 -- The measure is the number of atoms that the lanes lack. Assumes nothing.
 use Prim.Native.Nat.{_-_}
-use Rattle.lanes.specs.Passes.{Covers, Stale}
-use Rattle.lanes.proofs.CloseLaws.{Closing, closing-first, closing-idle, closing-next, settled, stale-none, stale-to}
+use Rattle.lanes.proofs.CloseLaws.{Progressing, closing-first, closing-idle, closing-next, settled, stale-none, stale-to}
 use Rattle.lanes.proofs.MissingLaws.{fewer, missing}
 use Rattle.lanes.proofs.StepLaws.{covers-same}
 use Rattle.lanes.proofs.levels.close.Statement.{statement}
@@ -10,32 +9,34 @@ use Rattle.lanes.proofs.levels.close.Tie as tie
 
 abbrev Inv-loop : tie.InvT-loop
 Inv-loop table₀ heads positive negated from to possible progress₀ initial₀ table progress initial =
-    Closing heads positive negated from (to - from) table₀ table
-    × (Covers (progress .possible) table × Stale heads positive from to (progress .added) initial table)
+    Progressing heads positive negated from (to - from) to table₀ table progress initial
 
 abbrev μ-loop : tie.MeasureT-loop
 μ-loop table₀ heads positive negated from to possible progress₀ initial₀ table progress initial = missing table
 
 reduce-requires : tie.Need-reduce-requires Inv-loop μ-loop
-reduce-requires c κs = let p = c .before .pre .0 in (p .0, (p .1 .0, p .1 .1 .1))
+reduce-requires c κs = let p = c .before .pre .0 in record { ordered = p .0 .ordered; fits = p .0 .fits; long = p .1 }
 
 loop-holds : tie.Need-loop-holds Inv-loop μ-loop
 loop-holds c =
     let p = c .before .before .pre in
-    (closing-first _ _ _ _ _ _ _ (p .0 .0) (c .reduce .ensures), (covers-same _ _ _ (c .reduce .ensures .same) (p .1), stale-none _ _ _ _ _ _))
+    record {
+      closing = closing-first _ _ _ _ _ _ _ (p .0 .0 .ordered) (c .reduce .ensures);
+      covers = covers-same _ _ _ (c .reduce .ensures .same) (p .1);
+      stale = stale-none _ _ _ _ _ _;
+    }
 
 pass-requires : tie.Need-pass-requires Inv-loop μ-loop
 pass-requires c κs =
-    let p = c .before .before .before .before .pre .0 in
     let v = c .before .loop .inv in
-    ((p .0, (p .1 .0, (p .1 .1 .0, v .0 .long))), v .1)
+    ((c .before .before .before .before .pre .0 .0, v .closing .long), (v .covers, v .stale))
 
 returns : tie.Need-returns Inv-loop μ-loop
 returns c =
     let e = c .before .before .pass .ensures in
     let l = c .before .before .before .before in
-    settled _ _ _ _ _ _ _ (l .before .before .before .pre .0 .0) (l .before .reduce .ensures) _ _ (e .long) (e .covers)
-    (closing-idle _ _ _ _ _ _ _ _ _ (l .loop .inv .0) e (c .if1 .taken))
+    settled _ _ _ _ _ _ _ (l .before .before .before .pre .0 .0 .ordered) (l .before .reduce .ensures) _ _ (e .long) (e .covers)
+    (closing-idle _ _ _ _ _ _ _ _ _ (l .loop .inv .closing) e (c .if1 .taken))
 
 loop-less : tie.Need-loop-less Inv-loop μ-loop
 loop-less c = let e = c .before .before .pass .ensures in fewer _ _ (e .grows) (e .adds (c .if1 .left))
@@ -43,10 +44,12 @@ loop-less c = let e = c .before .before .pass .ensures in fewer _ _ (e .grows) (
 loop-again : tie.Need-loop-again Inv-loop μ-loop
 loop-again c =
     let e = c .before .before .pass .ensures in
-    let l = c .before .before .before .before in (
-      closing-next _ _ _ _ _ _ _ _ _ (l .loop .inv .0) e,
-      (e .covers, stale-to _ _ _ _ _ _ _ (l .before .before .before .pre .0 .0) (e .stale)),
-    )
+    let l = c .before .before .before .before in
+    record {
+      closing = closing-next _ _ _ _ _ _ _ _ _ (l .loop .inv .closing) e;
+      covers = e .covers;
+      stale = stale-to _ _ _ _ _ _ _ (l .before .before .before .pre .0 .0 .ordered) (e .stale);
+    }
 
 pub close-spec : {M : Type 1} → statement M
 close-spec =

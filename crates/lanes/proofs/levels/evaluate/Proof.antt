@@ -1,24 +1,23 @@
 -- `lanes::levels::evaluate` meets its contract: the levels that are left make of each set what all make of the first. Assumes nothing.
-use Prim.Native.Nat.{_+_, _-_, _≤_}
+use Prim.Native.Nat.{_-_}
 use denote.Ref.{now}
-use lib.ListN.{getD}
-use native.Mathlib.Numerals.{add-one}
 use borrow.Author.Needs.{needs}
 use native.Mathlib.Omega.{arith}
-use Rattle.lanes.specs.Passes.{Covers}
+use Rattle.records.specs.Levels.{levelCount}
+use Rattle.arrays.proofs.StartLaws.{level-places}
 use Rattle.lanes.proofs.EvaluateLaws.{Evaluating, evaluating-done, evaluating-first, evaluating-next}
 use Rattle.lanes.proofs.levels.evaluate.Statement.{statement}
 use Rattle.lanes.proofs.levels.evaluate.Tie as tie
 
 abbrev Inv-loop : tie.InvT-loop
 Inv-loop table₀ heads positive negated starts possible reached₀ level₀ table reached level =
-    (level ≤ 9) × (Evaluating heads positive negated starts table₀ table level × Covers reached table)
+    Evaluating levelCount heads positive negated starts table₀ table reached level
 
 abbrev μ-loop : tie.MeasureT-loop
-μ-loop table₀ heads positive negated starts possible reached₀ level₀ table reached level = 9 - level
+μ-loop table₀ heads positive negated starts possible reached₀ level₀ table reached level = levelCount - level
 
 loop-holds : tie.Need-loop-holds Inv-loop μ-loop
-loop-holds c = (omega arith, (evaluating-first _ _ _ _ _ (c .pre .0 .1), c .pre .1))
+loop-holds c = evaluating-first _ _ _ _ _ _ _ (c .pre .0 .1) (c .pre .1)
 
 mul-from : tie.Need-mul-from Inv-loop μ-loop
 mul-from c = search needs
@@ -36,11 +35,10 @@ element-copy-out-to : tie.Need-element-copy-out-to Inv-loop μ-loop
 element-copy-out-to c = search needs
 
 close-requires : tie.Need-close-requires Inv-loop μ-loop
-close-requires c κs = let p = c .before .before .before .before .before .pre .0 in
-    let l = c .before .before .before .before .loop .level in
-    let starts = now (c .before .before .before .before .before .args .starts) in
-    let places : (getD starts l 0 ≤ getD starts (l + 1) 0) × (getD starts (l + 1) 0 ≤ 128) = rw (add-one l) (p .0 .ordered l (omega arith)) in
-    ((places .0, (places .1, (p .0 .singles, c .before .before .before .before .loop .inv .1 .0 .long))), c .before .before .before .before .loop .inv .1 .1)
+close-requires c κs =
+    let s = c .before .before .before .before .before in
+    let l = c .before .before .before .before .loop in
+    ((level-places levelCount (now (s .args .heads)) (now (s .args .starts)) (s .pre .0 .0) (l .level) (omega arith), l .inv .long), l .inv .covers)
 
 add-level : tie.Need-add-level Inv-loop μ-loop
 add-level c = search needs
@@ -51,10 +49,10 @@ loop-less c = omega arith
 loop-again : tie.Need-loop-again Inv-loop μ-loop
 loop-again c =
     let l = c .before .before .before .before .before .loop in
-    (omega arith, (evaluating-next _ _ _ _ _ _ _ (l .level) _ (omega arith) (l .inv .1 .0) (c .close .ensures), c .close .ensures .covers))
+    evaluating-next _ _ _ _ _ _ _ _ (l .level) _ _ (omega arith) (l .inv) (c .close .ensures)
 
 returns : tie.Need-returns Inv-loop μ-loop
-returns c = evaluating-done _ _ _ _ _ _ (c .before .loop .level) (omega arith) (c .before .loop .inv .1 .0)
+returns c = evaluating-done _ _ _ _ _ _ _ _ (c .before .loop .level) (omega arith) (c .before .loop .inv)
 
 pub evaluate-spec : {M : Type 1} → statement M
 evaluate-spec =

@@ -1,5 +1,5 @@
 -- `lanes::levels::reduce` meets its contract: of the rules before place k it is read. Assumes nothing.
-use Prim.Native.Nat.{_-_, _≤_}
+use Prim.Native.Nat.{_-_}
 use borrow.Author.Needs.{needs}
 use native.Mathlib.Omega.{arith}
 use Rattle.lanes.proofs.ReduceLaws.{Reducing, reducing-done, reducing-first, reducing-next}
@@ -7,13 +7,13 @@ use Rattle.lanes.proofs.levels.reduce.Statement.{statement}
 use Rattle.lanes.proofs.levels.reduce.Tie as tie
 
 abbrev Inv-loop : tie.InvT-loop
-Inv-loop table₀ negated from to k₀ table k = (from ≤ k) × ((k ≤ to) × Reducing negated from table₀ table k)
+Inv-loop table₀ negated from to k₀ table k = Reducing negated from table₀ table k
 
 abbrev μ-loop : tie.MeasureT-loop
 μ-loop table₀ negated from to k₀ table k = to - k
 
 loop-holds : tie.Need-loop-holds Inv-loop μ-loop
-loop-holds c = (omega arith, (omega arith, reducing-first _ _ _ (c .pre .1 .1)))
+loop-holds c = reducing-first _ _ _ (c .pre .long)
 
 mul-none : tie.Need-mul-none Inv-loop μ-loop
 mul-none c = omega arith
@@ -31,7 +31,7 @@ complement-requires : tie.Need-complement-requires Inv-loop μ-loop
 complement-requires c κs = search needs
 
 store-requires : tie.Need-store-requires Inv-loop μ-loop
-store-requires c κs = (omega arith, c .before .before .before .before .before .before .loop .inv .1 .1 .long)
+store-requires c κs = (omega arith, c .before .before .before .before .before .before .loop .inv .long)
 
 add-k : tie.Need-add-k Inv-loop μ-loop
 add-k c = omega arith
@@ -43,10 +43,10 @@ loop-again : tie.Need-loop-again Inv-loop μ-loop
 loop-again c =
     let l = c .before .before .before .before .before .before .before .loop in
     let hit = c .before .before .before .having-any .ensures in
-    (omega arith, (omega arith, reducing-next _ _ _ _ _ _ _ (l .k) (l .inv .1 .1) hit (c .before .complement .ensures) (c .store .ensures)))
+    reducing-next _ _ _ _ _ _ _ (l .k) (l .inv) hit (c .before .complement .ensures) (c .store .ensures)
 
 returns : tie.Need-returns Inv-loop μ-loop
-returns c = reducing-done _ _ _ _ (c .before .loop .k) _ (omega arith) (c .before .loop .inv .1 .1)
+returns c = reducing-done _ _ _ _ (c .before .loop .k) _ (omega arith) (c .before .loop .inv)
 
 pub reduce-spec : {M : Type 1} → statement M
 reduce-spec =

@@ -18,12 +18,12 @@ having-all-requires c κs = search needs
 cast-at : tie.Need-cast-at
 cast-at c =
     let s = c .before .before .before in
-    omega (arith, one-fits (s .args .head) (s .pre .1 .0))
+    omega (arith, one-fits (s .args .head) (s .pre .single))
 
 load-requires-2 : tie.Need-load-requires-2
 load-requires-2 c κs =
     let s = c .before .before .before .before in
-    omega (arith, one-fits (s .args .head) (s .pre .1 .0))
+    omega (arith, one-fits (s .args .head) (s .pre .single))
 
 union-requires : tie.Need-union-requires
 union-requires c κs = search needs
@@ -31,7 +31,7 @@ union-requires c κs = search needs
 store-requires : tie.Need-store-requires
 store-requires c κs =
     let s = c .before .before .before .before .before .before .before in
-    (omega (arith, one-fits (s .args .head) (s .pre .1 .0)), s .pre .1 .1)
+    (omega (arith, one-fits (s .args .head) (s .pre .single)), s .pre .long)
 
 complement-requires : tie.Need-complement-requires
 complement-requires c κs = search needs
@@ -46,7 +46,7 @@ returns : tie.Need-returns
 returns c =
     let old = c .before .before .before .before .before .before in
     let body = old .before .before in
-    fired _ _ _ _ _ _ _ _ _ _ _ _ (body .before .before .before .pre .1 .0) (body .before .load .ensures) (body .having-all .ensures) (old .load2 .ensures)
+    fired _ _ _ _ _ _ _ _ _ _ _ _ (body .before .before .before .pre .single) (body .before .load .ensures) (body .having-all .ensures) (old .load2 .ensures)
     (c .before .before .before .before .union .ensures) (c .before .before .before .store .ensures) (c .before .before .complement .ensures)
     (c .before .intersection .ensures) (c .is-empty .ensures)
 

@@ -1,5 +1,5 @@
 -- `lanes::passes::pass` meets its contract: the rules that are left make of each set what all make of the first. Assumes nothing.
-use Prim.Native.Nat.{_-_, _≤_}
+use Prim.Native.Nat.{_-_}
 use native.Mathlib.Omega.{arith}
 use Rattle.lanes.proofs.PassLaws.{Passing, passing-done, passing-first, passing-next}
 use Rattle.lanes.proofs.passes.pass.Statement.{statement}
@@ -7,13 +7,13 @@ use Rattle.lanes.proofs.passes.pass.Tie as tie
 
 abbrev Inv-loop : tie.InvT-loop
 Inv-loop table₀ heads positive from to possible delta initial progress₀ k₀ table progress k =
-    (from ≤ k) × ((k ≤ to) × Passing heads positive from to delta initial table₀ table progress k)
+    Passing heads positive from to delta initial table₀ table progress k
 
 abbrev μ-loop : tie.MeasureT-loop
 μ-loop table₀ heads positive from to possible delta initial progress₀ k₀ table progress k = to - k
 
 loop-holds : tie.Need-loop-holds Inv-loop μ-loop
-loop-holds c = (omega arith, (omega arith, passing-first _ _ _ _ _ _ _ _ (c .pre .0 .1 .1 .1) (c .pre .1 .0) (c .pre .1 .1)))
+loop-holds c = passing-first _ _ _ _ _ _ _ _ (c .pre .0 .1) (c .pre .1 .0) (c .pre .1 .1)
 
 mul-head : tie.Need-mul-head Inv-loop μ-loop
 mul-head c = omega arith
@@ -29,9 +29,10 @@ element-copy-out-all c = omega arith
 
 step-requires : tie.Need-step-requires Inv-loop μ-loop
 step-requires c κs =
-    let p = c .before .before .before .before .loop .inv .1 .1 in
+    let p = c .before .before .before .before .loop .inv in
     let k = c .before .before .before .before .loop .k in
-    ((omega arith, (c .before .before .before .before .before .pre .0 .1 .1 .0 k (omega arith), p .long)), (p .covers, p .left k (omega arith) (omega arith)))
+    let one = c .before .before .before .before .before .pre .0 .0 .singles k (omega arith) in
+    (record { place = omega arith; single = one; long = p .long }, (p .covers, p .left k (omega arith) (omega arith)))
 
 add-k : tie.Need-add-k Inv-loop μ-loop
 add-k c = omega arith
@@ -42,11 +43,11 @@ loop-less c = omega arith
 loop-again : tie.Need-loop-again Inv-loop μ-loop
 loop-again c =
     let l = c .before .before .before .before .before .loop in
-    let one = c .before .before .before .before .before .before .pre .0 .1 .1 .0 (l .k) (omega arith) in
-    (omega arith, (omega arith, passing-next _ _ _ _ _ _ _ _ _ _ _ (l .k) (omega arith) (omega arith) one (l .inv .1 .1) (c .step .ensures)))
+    let one = c .before .before .before .before .before .before .pre .0 .0 .singles (l .k) (omega arith) in
+    passing-next _ _ _ _ _ _ _ _ _ _ _ (l .k) (omega arith) one (l .inv) (c .step .ensures)
 
 returns : tie.Need-returns Inv-loop μ-loop
-returns c = passing-done _ _ _ _ _ _ _ _ _ (c .before .loop .k) (omega arith) (c .before .loop .inv .1 .1)
+returns c = passing-done _ _ _ _ _ _ _ _ _ (c .before .loop .k) (omega arith) (c .before .loop .inv)
 
 pub pass-spec : {M : Type 1} → statement M
 pass-spec =

@@ -9,14 +9,14 @@ use Rattle.lanes.proofs.passes.step.Tie as tie
 returns : tie.Need-returns
 returns c =
     let s = c .before in
-    passed-over _ _ _ _ _ (s .pre .0 .1 .1) (s .pre .1 .0) (lacking-satisfied _ _ _ (s .args .progress .possible) _ (omega arith) (s .pre .1 .0) (c .if1 .taken))
+    passed-over _ _ _ _ _ (s .pre .0 .long) (s .pre .1 .0) (lacking-satisfied _ _ _ (s .args .progress .possible) _ (omega arith) (s .pre .1 .0) (c .if1 .taken))
 
 returns-2 : tie.Need-returns-2
 returns-2 c =
     let s = c .before .before in
     let a = s .args in
     let read = bitAnd (a .positive) (bitOr (a .delta) (a .progress .added)) in
-    passed-over _ _ _ _ _ (s .pre .0 .1 .1) (s .pre .1 .0) (s .pre .1 .1 (or-right read (a .initial) (c .if2 .taken)) (or-left read (a .initial) (c .if2 .taken)))
+    passed-over _ _ _ _ _ (s .pre .0 .long) (s .pre .1 .0) (s .pre .1 .1 (or-right read (a .initial) (c .if2 .taken)) (or-left read (a .initial) (c .if2 .taken)))
 
 fire-requires : tie.Need-fire-requires
 fire-requires c κs = c .before .before .before .pre .0

@@ -6,8 +6,8 @@ use native.Mathlib.Omega.{arith}
 use Rattle.atoms.specs.Sets.{subset}
 use Rattle.records.specs.Types.{recordOf}
 use Rattle.records.proofs.LevelLaws.{level-lt}
-use Rattle.policy.specs.PolicyTest.{accessLevels}
-use Rattle.policy.proofs.RecordLaws.{levels-by-sets}
+use Rattle.form.specs.PolicyTest.{accessLevels}
+use Rattle.form.proofs.RecordLaws.{levels-by-sets}
 use Rattle.policy.proofs.levels.access_levels.Statement.{statement}
 use Rattle.policy.proofs.levels.access_levels.Tie as tie
 

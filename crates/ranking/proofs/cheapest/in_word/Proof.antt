@@ -1,17 +1,16 @@
 -- `ranking::cheapest::in_word` meets its contract. Assumes nothing.
-use mathlib.Core.Path.{_∙_, _≡_, ap, refl, subst, sym}
-use Prim.Native.Nat.{_*_, _+_, _-_, _≤_, ℕ}
-use lib.ListN.{getD}
+use mathlib.Core.Path.{_∙_, ap, refl, subst, sym}
+use Prim.Native.Nat.{_*_, _+_, _-_, ℕ}
 use Rattle.atoms.specs.Sets.{bit}
 use Rattle.ranking.specs.Cheapest.{Cheapest}
-use Rattle.ranking.proofs.LaneLaws.{bit-at, cheapest-empty, cheapest-more}
+use Rattle.ranking.proofs.LaneLaws.{InWord, bit-at, cheapest-empty, cheapest-more}
 use borrow.Author.Needs.{needs}
 use native.Mathlib.Omega.{arith}
 use Rattle.ranking.proofs.cheapest.in_word.Statement.{statement}
 use Rattle.ranking.proofs.cheapest.in_word.Tie as tie
 
 abbrev Inv-loop : tie.InvT-loop
-Inv-loop keys words t known word least₀ i₀ least i = (i ≤ 64) × (word ≡ getD words t 0) × Cheapest keys words (64 * t + i) least
+Inv-loop keys words t known word least₀ i₀ least i = InWord keys words t word least i
 
 abbrev μ-loop : tie.MeasureT-loop
 μ-loop keys words t known word least₀ i₀ least i = 64 - i
@@ -26,8 +25,13 @@ returns : tie.Need-returns Inv-loop μ-loop
 returns c = cheapest-empty _ _ _ _ (c .before .before .pre .1) (c .if1 .taken)
 
 loop-holds : tie.Need-loop-holds Inv-loop μ-loop
-loop-holds c = let a = c .before .before .args in
-    (omega arith, refl, subst (λ (x : ℕ). Cheapest (a .keys .now) (a .words .now) x (a .known)) (omega arith) (c .before .before .pre .1))
+loop-holds c =
+    let a = c .before .before .args in
+    record {
+      low = omega arith;
+      read = refl;
+      cheapest = subst (λ (x : ℕ). Cheapest (a .keys .now) (a .words .now) x (a .known)) (omega arith) (c .before .before .pre .1);
+    }
 
 mul-lane : tie.Need-mul-lane Inv-loop μ-loop
 mul-lane c = omega arith
@@ -54,20 +58,24 @@ loop-less : tie.Need-loop-less Inv-loop μ-loop
 loop-less c = omega arith
 
 loop-again : tie.Need-loop-again Inv-loop μ-loop
-loop-again c = let a = c .before .before .before .before .before .before .args in
+loop-again c =
+    let a = c .before .before .before .before .before .before .args in
     let v = c .before .before .before .loop in
-    let k = c .before .before .loop-test .taken in (
-      omega arith,
-      v .inv .1,
-      subst (λ (x : ℕ). Cheapest (a .keys .now) (a .words .now) x (c .joined .result)) (omega arith)
-          (cheapest-more (a .keys .now) (a .words .now) (64 * a .t + v .i) _ _ _ (v .inv .2)
-          (ap (λ (x : ℕ). bit x (v .i)) (v .inv .1) ∙ sym (bit-at (a .words .now) (a .t) (v .i) k)) (c .joined .ensures)),
-    )
+    let k = c .before .before .loop-test .taken in
+    record {
+      low = omega arith;
+      read = v .inv .read;
+      cheapest =
+          subst (λ (x : ℕ). Cheapest (a .keys .now) (a .words .now) x (c .joined .result)) (omega arith)
+          (cheapest-more (a .keys .now) (a .words .now) (64 * a .t + v .i) _ _ _ (v .inv .cheapest)
+          (ap (λ (x : ℕ). bit x (v .i)) (v .inv .read) ∙ sym (bit-at (a .words .now) (a .t) (v .i) k)) (c .joined .ensures));
+    }
 
 returns-2 : tie.Need-returns-2 Inv-loop μ-loop
-returns-2 c = let a = c .before .before .before .before .args in
+returns-2 c =
+    let a = c .before .before .before .before .args in
     let v = c .before .loop in
-    subst (λ (x : ℕ). Cheapest (a .keys .now) (a .words .now) x (v .least)) (omega arith) (v .inv .2)
+    subst (λ (x : ℕ). Cheapest (a .keys .now) (a .words .now) x (v .least)) (omega arith) (v .inv .cheapest)
 
 pub in-word-spec : {M : Type 1} → statement M
 in-word-spec =

@@ -24,7 +24,7 @@ slice-read-totals c = omega (arith, c .before .before .loop .inv .1 .long)
 add-totals : tie.Need-add-totals Inv-loop μ-loop
 add-totals c =
     let v = c .before .before .loop .inv .1 in
-    omega (arith, v .kept _ (c .before .loop-test .taken), c .before .before .before .pre .2 _ (c .before .loop-test .taken))
+    omega (arith, v .kept _ (c .before .loop-test .taken), c .before .before .before .pre .fits _ (c .before .loop-test .taken))
 
 add-totals-2 : tie.Need-add-totals-2 Inv-loop μ-loop
 add-totals-2 c = omega arith

@@ -1,16 +1,15 @@
 -- `ranking::place::bar` meets its contract. Assumes nothing.
 use mathlib.Core.Path.{refl}
-use Prim.Native.Nat.{_*_, _-_, _<_, _≤_}
-use Rattle.ranking.specs.Keys.{never}
-use Rattle.ranking.specs.Place.{keysIn}
-use Rattle.ranking.proofs.PlaceLaws.{half-past}
+use Prim.Native.Nat.{_-_}
+use Rattle.ranking.proofs.PlaceLaws.{Between, half-past}
 use borrow.Author.Needs.{needs}
 use native.Mathlib.Omega.{arith}
 use Rattle.ranking.proofs.place.bar.Statement.{statement}
 use Rattle.ranking.proofs.place.bar.Tie as tie
 
 abbrev Inv-loop : tie.InvT-loop
-Inv-loop low lanes high last blocks limit bounds₀ bounds = (bounds .low ≤ bounds .high) × (bounds .high < never) × (limit < keysIn low lanes high blocks (256 * bounds .high))
+Inv-loop low lanes high last blocks limit bounds₀ bounds =
+    Between low lanes high blocks limit (bounds .low) (bounds .high)
 
 abbrev μ-loop : tie.MeasureT-loop
 μ-loop low lanes high last blocks limit bounds₀ bounds = bounds .high - bounds .low
@@ -25,7 +24,7 @@ returns : tie.Need-returns Inv-loop μ-loop
 returns c = record { most = omega arith; past = λ l. absurd (omega arith) }
 
 loop-holds : tie.Need-loop-holds Inv-loop μ-loop
-loop-holds c = (omega arith, omega arith, omega (arith, c .before .place .ensures))
+loop-holds c = record { ordered = omega arith; small = omega arith; past = omega (arith, c .before .place .ensures) }
 
 sub-middle : tie.Need-sub-middle Inv-loop μ-loop
 sub-middle c = omega arith
@@ -52,16 +51,17 @@ loop-again : tie.Need-loop-again Inv-loop μ-loop
 loop-again c =
     let a = c .before .before .before .before .before .before .before .before .before .args in
     let v = c .before .before .before .before .before .before .loop .inv in
-    let h = c .half .ensures in (
-      h .ordered,
-      omega (arith, h .within),
-      half-past (a .low .now) (a .lanes) (a .high .now) (a .blocks) (a .limit) _ _ _ _ _ (v .2) (c .before .place2 .ensures) refl (h .one),
-    )
+    let h = c .half .ensures in
+    record {
+      ordered = h .ordered;
+      small = omega (arith, h .within);
+      past = half-past (a .low .now) (a .lanes) (a .high .now) (a .blocks) (a .limit) _ _ _ _ _ (v .past) (c .before .place2 .ensures) refl (h .one);
+    }
 
 returns-2 : tie.Need-returns-2 Inv-loop μ-loop
 returns-2 c =
     let v = c .before .before .loop .inv in
-    record { most = omega arith; past = λ _. v .2 }
+    record { most = omega arith; past = λ _. v .past }
 
 pub bar-spec : {M : Type 1} → statement M
 bar-spec =

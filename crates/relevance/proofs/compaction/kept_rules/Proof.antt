@@ -1,10 +1,11 @@
 -- `relevance::compaction::kept_rules` meets its contract. The loop's invariant: the rules before place k that are kept are at their places. Assumes nothing.
-use mathlib.Core.Path.{refl, sym}
+use mathlib.Core.Path.{sym}
 use Prim.Native.Nat.{_-_, _<_}
 use denote.Ref.{now}
 use borrow.Author.Needs.{needs}
 use native.Mathlib.Omega.{arith}
-use Rattle.evaluation.proofs.HeadLaws.{heads-start}
+use Rattle.records.specs.Levels.{levelCount}
+use Rattle.arrays.proofs.HeadLaws.{room-start}
 use Rattle.relevance.proofs.CompactionLaws.{Compacting, compacting-done, compacting-next, compacting-room}
 use Rattle.relevance.proofs.PlaceLaws.{before-none}
 use Rattle.relevance.proofs.compaction.kept_rules.Statement.{statement}
@@ -12,7 +13,7 @@ use Rattle.relevance.proofs.compaction.kept_rules.Tie as tie
 
 abbrev Inv-loop : tie.InvT-loop
 Inv-loop heads positive negated starts set kept₀ count place₀ k₀ kept place k =
-    Compacting (set .bits) heads positive negated starts (kept .heads) (kept .positive) (kept .negated) (kept .starts) place k
+    Compacting levelCount (set .bits) heads positive negated starts (kept .heads) (kept .positive) (kept .negated) (kept .starts) place k
 
 abbrev μ-loop : tie.MeasureT-loop
 μ-loop heads positive negated starts set kept₀ count place₀ k₀ kept place k = count - k
@@ -27,10 +28,9 @@ loop-holds : tie.Need-loop-holds Inv-loop μ-loop
 loop-holds c =
     let a = c .before .before .args in
     record {
-      wide = (refl, (refl, refl));
       low = omega arith;
       goes = sym (before-none (a .set .bits) (now (a .heads)));
-      singles = heads-start;
+      wide = room-start;
       begins = c .before .kept-starts .ensures;
       put = λ i l m. absurd (omega arith);
     }
@@ -41,7 +41,7 @@ room c =
     let s = c .before .before .before .before in
     let a = s .args in
     let l = c .before .loop in
-    compacting-room (a .set .bits) (now (a .heads)) (now (a .positive)) (now (a .negated)) (now (a .starts)) (l .kept .heads) (l .kept .positive)
+    compacting-room levelCount (a .set .bits) (now (a .heads)) (now (a .positive)) (now (a .negated)) (now (a .starts)) (l .kept .heads) (l .kept .positive)
     (l .kept .negated) (l .kept .starts) (l .place) (l .k) (s .pre) (l .inv) (c .loop-test .taken)
 
 mul-head : tie.Need-mul-head Inv-loop μ-loop
@@ -97,7 +97,7 @@ loop-again c =
     let s = here .before .before .before .before in
     let a = s .args in
     let l = here .before .loop in
-    compacting-next (a .set .bits) (now (a .heads)) (now (a .positive)) (now (a .negated)) (now (a .starts)) (l .kept .heads) (l .kept .positive)
+    compacting-next levelCount (a .set .bits) (now (a .heads)) (now (a .positive)) (now (a .negated)) (now (a .starts)) (l .kept .heads) (l .kept .positive)
     (l .kept .negated) (l .kept .starts) (l .place) (l .k) (s .pre) (l .inv) (here .loop-test .taken) (c .after .result) (c .after .ensures)
 
 returns : tie.Need-returns Inv-loop μ-loop
@@ -105,7 +105,7 @@ returns c =
     let s = c .before .before .before .before in
     let a = s .args in
     let l = c .before .loop in
-    compacting-done (a .set .bits) (now (a .heads)) (now (a .positive)) (now (a .negated)) (now (a .starts)) (l .kept .heads) (l .kept .positive)
+    compacting-done levelCount (a .set .bits) (now (a .heads)) (now (a .positive)) (now (a .negated)) (now (a .starts)) (l .kept .heads) (l .kept .positive)
     (l .kept .negated) (l .kept .starts) (l .place) (l .k) (s .pre) (l .inv) (c .loop-test .left)
 
 pub kept-rules-spec : {M : Type 1} → statement M

@@ -16,7 +16,7 @@ abbrev μ-loop : tie.MeasureT-loop
 μ-loop heads from to place set next₀ k₀ next k = to - k
 
 loop-holds : tie.Need-loop-holds Inv-loop μ-loop
-loop-holds c = (omega arith, c .pre .1 .1)
+loop-holds c = (omega arith, c .pre .1)
 
 mul-head : tie.Need-mul-head Inv-loop μ-loop
 mul-head c = search needs
@@ -28,7 +28,7 @@ after-requires : tie.Need-after-requires Inv-loop μ-loop
 after-requires c κs =
     let s = c .before .before .before in
     let l = c .before .before .loop in
-    (omega (arith, before-most (s .args .set .bits) (now (s .args .heads)) (l .k)), s .pre .1 .0 (l .k) (omega arith))
+    (omega (arith, before-most (s .args .set .bits) (now (s .args .heads)) (l .k)), s .pre .0 .singles (l .k) (omega arith))
 
 add-k : tie.Need-add-k Inv-loop μ-loop
 add-k c = search needs

@@ -5,7 +5,7 @@ use lib.ListN.{getD}
 use denote.Ref.{now}
 use borrow.Author.Needs.{needs}
 use Rattle.atoms.specs.Sets.{union}
-use Rattle.evaluation.specs.Arrays.{ruleAt}
+use Rattle.arrays.specs.Arrays.{ruleAt}
 use Rattle.relevance.proofs.FollowLaws.{followed-in, followed-out}
 use Rattle.relevance.proofs.HeadLaws.{head-in, head-out}
 use Rattle.relevance.proofs.reach.follow.Statement.{statement}

@@ -3,7 +3,7 @@ use Prim.Native.Nat.{_-_, _≤_}
 use denote.Ref.{now}
 use borrow.Author.Needs.{needs}
 use native.Mathlib.Omega.{arith}
-use Rattle.evaluation.specs.Arrays.{rulesIn}
+use Rattle.arrays.specs.Arrays.{rulesIn}
 use Rattle.relevance.specs.Relevance.{Followed}
 use Rattle.relevance.proofs.FollowLaws.{pass-down, pass-end, pass-start}
 use Rattle.relevance.proofs.reach.follow_all.Statement.{statement}
@@ -25,7 +25,7 @@ sub-k : tie.Need-sub-k Inv-loop μ-loop
 sub-k c = search needs
 
 follow-requires : tie.Need-follow-requires Inv-loop μ-loop
-follow-requires c κs = (omega arith, c .before .before .pre .1 (c .before .loop .k - 1) (omega arith))
+follow-requires c κs = (omega arith, c .before .before .pre .singles (c .before .loop .k - 1) (omega arith))
 
 loop-less : tie.Need-loop-less Inv-loop μ-loop
 loop-less c = omega arith

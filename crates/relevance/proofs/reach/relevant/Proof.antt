@@ -6,7 +6,7 @@ use denote.Ref.{now}
 use borrow.Author.Needs.{needs}
 use native.Mathlib.Omega.{arith}
 use Rattle.atoms.specs.Sets.{size, union}
-use Rattle.evaluation.specs.Arrays.{rulesIn}
+use Rattle.arrays.specs.Arrays.{rulesIn}
 use Rattle.relevance.proofs.FollowLaws.{OnTheWay, way-adds, way-end, way-next, way-start}
 use Rattle.relevance.proofs.reach.relevant.Statement.{statement}
 use Rattle.relevance.proofs.reach.relevant.Tie as tie

@@ -1,5 +1,6 @@
 -- `search::blocks::best_of` meets its contract. Assumes nothing.
 use Prim.Native.Nat.{_-_, _≤_}
+use Rattle.records.specs.Levels.{levelCount}
 use Rattle.preference.specs.InArrays.{opensAt}
 use Rattle.ranking.specs.Keys.{never}
 use Rattle.search.specs.Blocks.{Best}
@@ -11,7 +12,7 @@ use Rattle.search.proofs.blocks.best_of.Tie as tie
 
 abbrev Inv-loop : tie.InvT-loop
 Inv-loop heads positive negated starts request shown members count low lanes high blocks end best₀ from₀ best from =
-    (from ≤ never) × Best (opensAt heads positive negated starts request shown members count) low lanes high blocks from best
+    (from ≤ never) × Best (opensAt levelCount heads positive negated starts request shown members count) low lanes high blocks from best
 
 abbrev μ-loop : tie.MeasureT-loop
 μ-loop heads positive negated starts request shown members count low lanes high blocks end best₀ from₀ best from = never - from
@@ -21,7 +22,7 @@ loop-holds c = (omega arith, best-none _ _ _ _ _)
 
 next-key-requires : tie.Need-next-key-requires Inv-loop μ-loop
 next-key-requires c κs =
-    let most = c .before .before .pre .1 .0 .blocks-most in
+    let most = c .before .before .pre .1 .tables .blocks-most in
     let from = c .before .loop .inv .0 in
     search needs
 
@@ -29,12 +30,12 @@ is-last-requires : tie.Need-is-last-requires Inv-loop μ-loop
 is-last-requires c κs = search needs
 
 returns : tie.Need-returns Inv-loop μ-loop
-returns c = best-end _ _ _ _ _ (c .before .before .before .before .before .pre .1 .0) _ _ _ (c .before .before .before .before .loop .inv .1) (c .before .before .next-key .ensures) _ _ (c .before .is-last .ensures) (c .if1 .taken)
+returns c = best-end _ _ _ _ _ (c .before .before .before .before .before .pre .1 .tables) _ _ _ (c .before .before .before .before .loop .inv .1) (c .before .before .next-key .ensures) _ _ (c .before .is-last .ensures) (c .if1 .taken)
 
 visit-requires : tie.Need-visit-requires Inv-loop μ-loop
 visit-requires c κs =
     let p = c .before .before .before .before .before .pre in
-    (p .0, record { most = p .1 .0 .lanes-most; beyond = p .1 .0 .low-beyond })
+    (p .0, record { most = p .1 .tables .lanes-most; beyond = p .1 .tables .low-beyond })
 
 add-from : tie.Need-add-from Inv-loop μ-loop
 add-from c = let k = c .before .before .is-last .ensures .no (c .before .if1 .left) in omega (arith, c .before .before .before .next-key .ensures .rises)
@@ -46,8 +47,8 @@ loop-again : tie.Need-loop-again Inv-loop μ-loop
 loop-again c =
     let k = c .before .before .is-last .ensures .no (c .before .if1 .left) in
     let p = c .before .before .before .before .before .before .pre .1 in (
-      omega (arith, p .1),
-      best-more _ _ _ _ _ (p .0) _ _ _ (c .before .before .before .before .before .loop .inv .1) (c .before .before .before .next-key .ensures) _ (omega (arith, p .1)) (c .visit .ensures),
+      omega (arith, p .last),
+      best-more _ _ _ _ _ (p .tables) _ _ _ (c .before .before .before .before .before .loop .inv .1) (c .before .before .before .next-key .ensures) _ (omega (arith, p .last)) (c .visit .ensures),
     )
 
 pub best-of-spec : {M : Type 1} → statement M

@@ -30,16 +30,25 @@ table-requires-2 c κs = search needs
 
 limit-bar-requires : tie.Need-limit-bar-requires
 limit-bar-requires c κs =
-    let t = tables-of _ _ _ _ _ _ _ (omega arith) (c .before .before .before .before .before .before .lesser .ensures) (c .before .before .before .before .before .candidates .ensures .0) (c .before .before .before .before .candidates2 .ensures .0) (c .before .before .before .table .ensures) (c .before .before .table2 .ensures) in
-    let n = c .before .before .before .before .candidates2 .ensures .1 .0 in
-    ((t .lanes-most, (n, t .blocks-most)), omega (arith, t .high-small (c .before .before .before .before .candidates2 .result - 1) (omega arith)))
+    let at = c .before .before in
+    let t = tables-of _ _ _ _ _ _ _ (omega arith) (at .before .before .before .before .lesser .ensures) (at .before .before .before .candidates .ensures .power)
+    (at .before .before .candidates2 .ensures .power) (at .before .table .ensures) (at .table2 .ensures) in
+    record {
+      lanes-most = t .lanes-most;
+      blocks-some = at .before .before .candidates2 .ensures .some;
+      blocks-most = t .blocks-most;
+      last-key = omega (arith, t .high-small (at .before .before .candidates2 .result - 1) (omega arith));
+    }
 
 best-of-requires : tie.Need-best-of-requires
 best-of-requires c κs =
-    (c .before .before .before .before .before .before .before .before .before .before .pre, (tables-of _ _ _ _ _ _ _ (omega arith) (c .before .before .before .before .before .before .before .before .before .lesser .ensures) (c .before .before .before .before .before .before .before .before .candidates .ensures .0) (c .before .before .before .before .before .before .before .candidates2 .ensures .0) (c .before .before .before .before .before .before .table .ensures) (c .before .before .before .before .before .table2 .ensures), c .before .before .limit-bar .ensures .most))
+    let at = c .before .before .before .before .before in
+    let t = tables-of _ _ _ _ _ _ _ (omega arith) (at .before .before .before .before .lesser .ensures) (at .before .before .before .candidates .ensures .power)
+    (at .before .before .candidates2 .ensures .power) (at .before .table .ensures) (at .table2 .ensures) in
+    (at .before .before .before .before .before .pre, record { tables = t; last = c .before .before .limit-bar .ensures .most })
 
 candidates-requires-3 : tie.Need-candidates-requires-3
-candidates-requires-3 c κs = c .before .before .before .before .before .before .before .before .before .before .before .before .pre .1 .1 .0
+candidates-requires-3 c κs = c .before .before .before .before .before .before .before .before .before .before .before .before .pre .switches .0
 
 sub-nothing : tie.Need-sub-nothing
 sub-nothing c = search needs
@@ -49,23 +58,30 @@ nothing-requires c κs = search needs
 
 returns : tie.Need-returns
 returns c =
+    let at = c .before .before .before .before .before .before .before .before .before in
     c .nothing .ensures
-    ∙ block-nothing _ _ _ _ _ _ _ (c .before .before .before .before .before .before .before .before .before .before .before .before .before .before .pre .1 .1 .0) (c .before .before .before .before .before .before .before .before .before .before .before .before .before .lesser .ensures) (c .before .before .before .before .before .before .before .before .before .before .before .before .candidates .ensures .0) (c .before .before .before .before .before .before .before .before .before .before .before .candidates2 .ensures .0) (c .before .before .before .before .before .before .before .before .before .before .table .ensures)
-    (c .before .before .before .before .before .before .before .before .before .table2 .ensures) _ _ _ _ (c .before .before .before .before .before .before .limit-bar .ensures) (c .before .before .before .best-of .ensures) _ (c .before .before .if1 .taken) (omega (arith, c .before .candidates3 .ensures .0))
+    ∙ block-nothing _ _ _ _ _ _ _ (at .before .before .before .before .before .pre .switches .0) (at .before .before .before .before .lesser .ensures) (at .before .before .before .candidates .ensures .power)
+    (at .before .before .candidates2 .ensures .power) (at .before .table .ensures) (at .table2 .ensures) _ _ _ _
+    (c .before .before .before .before .before .before .limit-bar .ensures) (c .before .before .before .best-of .ensures) _ (c .before .before .if1 .taken)
+    (omega (arith, c .before .candidates3 .ensures .power))
 
 place-requires : tie.Need-place-requires
 place-requires c κs =
-    let t = tables-of _ _ _ _ _ _ _ (c .before .before .before .before .before .before .before .before .before .before .before .before .before .before .pre .1 .1 .0) (c .before .before .before .before .before .before .before .before .before .before .before .before .before .lesser .ensures) (c .before .before .before .before .before .before .before .before .before .before .before .before .candidates .ensures .0) (c .before .before .before .before .before .before .before .before .before .before .before .candidates2 .ensures .0) (c .before .before .before .before .before .before .before .before .before .before .table .ensures) (c .before .before .before .before .before .before .before .before .before .table2 .ensures) in
-    (t .lanes-most, (t .blocks-most, omega arith))
+    let at = c .before .before .before .before .before .before .before .before .before in
+    let t = tables-of _ _ _ _ _ _ _ (at .before .before .before .before .before .pre .switches .0) (at .before .before .before .before .lesser .ensures) (at .before .before .before .candidates .ensures .power)
+    (at .before .before .candidates2 .ensures .power) (at .before .table .ensures) (at .table2 .ensures) in
+    record { lanes-most = t .lanes-most; blocks-most = t .blocks-most; small = omega arith }
 
 found-requires : tie.Need-found-requires
 found-requires c κs = search needs
 
 returns-2 : tie.Need-returns-2
 returns-2 c =
+    let at = c .before .before .before .before .before .before .before .before .before .before .before in
     c .found .ensures
-    ∙ block-found _ _ _ _ _ _ _ (c .before .before .before .before .before .before .before .before .before .before .before .before .before .before .before .before .pre .1 .1 .0) (c .before .before .before .before .before .before .before .before .before .before .before .before .before .before .before .lesser .ensures) (c .before .before .before .before .before .before .before .before .before .before .before .before .before .before .candidates .ensures .0) (c .before .before .before .before .before .before .before .before .before .before .before .before .before .candidates2 .ensures .0) (c .before .before .before .before .before .before .before .before .before .before .before .before .table .ensures)
-    (c .before .before .before .before .before .before .before .before .before .before .before .table2 .ensures) _ _ _ _ (c .before .before .before .before .before .before .before .before .limit-bar .ensures) (c .before .before .before .before .before .best-of .ensures) _ (omega arith) (c .before .place .ensures)
+    ∙ block-found _ _ _ _ _ _ _ (at .before .before .before .before .before .pre .switches .0) (at .before .before .before .before .lesser .ensures) (at .before .before .before .candidates .ensures .power)
+    (at .before .before .candidates2 .ensures .power) (at .before .table .ensures) (at .table2 .ensures) _ _ _ _
+    (c .before .before .before .before .before .before .before .before .limit-bar .ensures) (c .before .before .before .before .before .best-of .ensures) _ (omega arith) (c .before .place .ensures)
 
 pub by-blocks-spec : {M : Type 1} → statement M
 by-blocks-spec =

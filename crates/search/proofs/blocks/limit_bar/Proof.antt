@@ -6,7 +6,7 @@ use Rattle.search.proofs.blocks.limit_bar.Statement.{statement}
 use Rattle.search.proofs.blocks.limit_bar.Tie as tie
 
 mul-if1 : tie.Need-mul-if1
-mul-if1 c = omega (arith, mul-le-mul (c .pre .0 .0) (c .pre .0 .1 .1))
+mul-if1 c = omega (arith, mul-le-mul (c .pre .lanes-most) (c .pre .blocks-most))
 
 returns : tie.Need-returns
 returns c = search needs

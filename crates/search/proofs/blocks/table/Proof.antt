@@ -15,7 +15,7 @@ slice-aggregate-write-keys c = search needs
 write-keys-requires : tie.Need-write-keys-requires
 write-keys-requires c κs =
     let m = pow-mono {i = c .before .before .args .members} {j = 8} (c .before .before .pre .0) in
-    (c .before .before .pre .0, c .before .before .pre .1, omega (arith, c .before .blank .ensures .0))
+    record { few = c .before .before .pre .0; within = c .before .before .pre .1; room = omega (arith, c .before .blank .ensures .0) }
 
 returns : tie.Need-returns
 returns c =

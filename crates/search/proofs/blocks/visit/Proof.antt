@@ -17,7 +17,7 @@ better-requires : tie.Need-better-requires
 better-requires c κs = search needs
 
 returns : tie.Need-returns
-returns c = visited _ _ _ _ _ _ _ _ _ _ _ _ _ _ _ (c .before .before .before .before .pre .1) (c .before .before .before .block .ensures) (c .before .cheapest .ensures) (c .better .ensures)
+returns c = visited _ _ _ _ _ _ _ _ _ _ _ _ _ _ _ _ (c .before .before .before .before .pre .1) (c .before .before .before .block .ensures) (c .before .cheapest .ensures) (c .better .ensures)
 
 pub visit-spec : {M : Type 1} → statement M
 visit-spec = tie.close (tie.spec cast-b block-requires cheapest-requires better-requires returns)

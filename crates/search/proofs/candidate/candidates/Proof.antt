@@ -9,9 +9,10 @@ shl-result : tie.Need-shl-result
 shl-result c = search needs
 
 returns : tie.Need-returns
-returns c = let m = pow-mono {i = c .args .members} {j = 16} (omega arith) in
+returns c =
+    let m = pow-mono {i = c .args .members} {j = 16} (omega arith) in
     let p = pow-pos (c .args .members) in
-    (omega arith, (omega arith, omega arith))
+    record { power = omega arith; some = omega arith; few = omega arith }
 
 pub candidates-spec : {M : Type 1} → statement M
 candidates-spec = tie.close (tie.spec shl-result returns)

@@ -1,8 +1,9 @@
 -- `search::candidate::opens` meets its contract. Assumes nothing.
 use mathlib.Core.Path.{_∙_, ap}
 use Prim.Native.Nat.{ℕ}
-use Rattle.evaluation.specs.Arrays.{evaluated}
-use Rattle.evaluation.specs.Unlocking.{grants}
+use Rattle.rules.specs.Unlocking.{grants}
+use Rattle.records.specs.Levels.{levelCount}
+use Rattle.arrays.specs.Arrays.{evaluated}
 use Rattle.preference.specs.InArrays.{opensAt}
 use borrow.Author.Needs.{needs}
 use Rattle.search.proofs.candidate.opens.Statement.{statement}
@@ -22,7 +23,7 @@ unfolding opensAt
 returns c =
     let a = c .before .before .before .args in
     c .unlocks .ensures
-    ∙ ap (λ (x : ℕ). grants (a .request) (evaluated (a .heads .now) (a .positive .now) (a .negated .now) (a .starts .now) x))
+    ∙ ap (λ (x : ℕ). grants (a .request) (evaluated levelCount (a .heads .now) (a .positive .now) (a .negated .now) (a .starts .now) x))
     (c .before .credentials .ensures ∙ c .before .before .switched .ensures)
 
 pub opens-spec : {M : Type 1} → statement M

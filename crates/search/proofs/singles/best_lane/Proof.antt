@@ -2,6 +2,7 @@
 use mathlib.Core.Path.{subst}
 use Prim.Native.Nat.{_-_, _≤_, ℕ}
 use native.Mathlib.Numerals.{add-one}
+use Rattle.records.specs.Levels.{levelCount}
 use Rattle.preference.specs.InArrays.{opensAt}
 use Rattle.search.specs.Singles.{BestLane}
 use Rattle.search.proofs.SingleLaws.{lane-more, lane-none}
@@ -11,7 +12,8 @@ use Rattle.search.proofs.singles.best_lane.Statement.{statement}
 use Rattle.search.proofs.singles.best_lane.Tie as tie
 
 abbrev Inv-loop : tie.InvT-loop
-Inv-loop heads positive negated starts request shown members count low best₀ k₀ best k = (k ≤ 7) × BestLane (opensAt heads positive negated starts request shown members count) low k best
+Inv-loop heads positive negated starts request shown members count low best₀ k₀ best k =
+    (k ≤ 7) × BestLane (opensAt levelCount heads positive negated starts request shown members count) low k best
 
 abbrev μ-loop : tie.MeasureT-loop
 μ-loop heads positive negated starts request shown members count low best₀ k₀ best k = 7 - k
@@ -46,7 +48,7 @@ returns : tie.Need-returns Inv-loop μ-loop
 returns c =
     let a = c .before .before .args in
     let v = c .before .loop in
-    subst (λ (x : ℕ). BestLane (opensAt (a .heads .now) (a .positive .now) (a .negated .now) (a .starts .now) (a .request) (a .shown) (a .members .now) (a .count)) (a .low .now) x (v .best))
+    subst (λ (x : ℕ). BestLane (opensAt levelCount (a .heads .now) (a .positive .now) (a .negated .now) (a .starts .now) (a .request) (a .shown) (a .members .now) (a .count)) (a .low .now) x (v .best))
     (omega arith) (v .inv .1)
 
 pub best-lane-spec : {M : Type 1} → statement M

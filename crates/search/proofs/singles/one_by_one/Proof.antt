@@ -18,11 +18,11 @@ slice-aggregate-write-keys c = search needs
 
 write-keys-requires : tie.Need-write-keys-requires
 write-keys-requires c κs =
-    let m = pow-mono {i = c .before .before .args .count} {j = 3} (c .before .before .pre .0 .1) in
-    (omega arith, omega arith, omega arith)
+    let m = pow-mono {i = c .before .before .args .count} {j = 3} (c .before .before .pre .few) in
+    record { few = omega arith; within = omega arith; room = omega arith }
 
 best-lane-requires : tie.Need-best-lane-requires
-best-lane-requires c κs = c .before .before .before .before .before .pre .0
+best-lane-requires c κs = let p = c .before .before .before .before .before .pre in (p .placed, p .few)
 
 sub-nothing : tie.Need-sub-nothing
 sub-nothing c = search needs
@@ -36,7 +36,7 @@ returns c =
     let p = c .before .before .before .before .before .before .before .before .pre in
     let w = c .before .before .before .before .before .write-keys .ensures in
     c .nothing .ensures
-    ∙ single-nothing _ _ _ (p .0 .1) (w .keys) _ _ _ _ (c .before .before .before .before .before .before .before .candidates .ensures .0) (λ i k l. w .beyond i k ∙ all-are never (replicate 8 never) refl i l) (p .1)
+    ∙ single-nothing _ _ _ (p .few) (w .keys) _ _ _ _ (c .before .before .before .before .before .before .before .candidates .ensures .power) (λ i k l. w .beyond i k ∙ all-are never (replicate 8 never) refl i l) (p .locked)
     (c .before .before .best-lane .ensures) (c .before .if1 .taken)
 
 slice-aggregate-keys-below : tie.Need-slice-aggregate-keys-below
@@ -44,9 +44,9 @@ slice-aggregate-keys-below c = search needs
 
 keys-below-requires : tie.Need-keys-below-requires
 keys-below-requires c κs =
-    let m = pow-mono {i = c .before .before .before .before .before .before .before .before .args .count} {j = 3} (c .before .before .before .before .before .before .before .before .pre .0 .1) in
+    let m = pow-mono {i = c .before .before .before .before .before .before .before .before .args .count} {j = 3} (c .before .before .before .before .before .before .before .before .pre .few) in
     let l = c .before .before .before .before .before .write-keys .ensures .long in
-    let n = c .before .before .before .before .before .before .before .candidates .ensures .0 in
+    let n = c .before .before .before .before .before .before .before .candidates .ensures .power in
     (omega arith, omega arith)
 
 cast-found : tie.Need-cast-found
@@ -64,7 +64,7 @@ returns-2 c =
     let p = c .before .before .before .before .before .before .before .before .before .before .pre in
     let w = c .before .before .before .before .before .before .before .write-keys .ensures in
     c .found .ensures
-    ∙ single-found _ _ _ (p .0 .1) (w .keys) _ _ _ _ (c .before .before .before .before .before .before .before .before .before .candidates .ensures .0) (λ i k l. w .beyond i k ∙ all-are never (replicate 8 never) refl i l) (p .1)
+    ∙ single-found _ _ _ (p .few) (w .keys) _ _ _ _ (c .before .before .before .before .before .before .before .before .before .candidates .ensures .power) (λ i k l. w .beyond i k ∙ all-are never (replicate 8 never) refl i l) (p .locked)
     (c .before .before .before .before .best-lane .ensures) _ (omega arith) (c .before .keys-below .ensures .0)
 
 pub one-by-one-spec : {M : Type 1} → statement M

@@ -23,7 +23,7 @@ tested-round-requires c κs = c .before .before .check .ensures .1 .0 .accepts .
 returns : tie.Need-returns
 returns c =
     let a = c .before .before .before .before .before .args in (
-      round-tested (now (a .policy)) (sessionOf (a .self)) (moveOf (a .shown)) (outcomeOf (c .tested-round .result))
+      round-tested (now (a .policy)) (sessionOf (a .self)) (moveOf (a .taken)) (outcomeOf (c .tested-round .result))
           (sym (c .before .before .before .check .ensures .0) ∙ ap checkedOf (c .before .enum-told .given .1)) (c .tested-round .ensures),
       refl,
     )
@@ -34,7 +34,7 @@ refused-requires c κs = search needs
 returns-2 : tie.Need-returns-2
 returns-2 c =
     let a = c .before .before .before .before .before .before .args in (
-      round-untested (now (a .policy)) (sessionOf (a .self)) (moveOf (a .shown)) (outcomeOf (c .refused .result)) _
+      round-untested (now (a .policy)) (sessionOf (a .self)) (moveOf (a .taken)) (outcomeOf (c .refused .result)) _
           (sym (c .before .before .before .before .check .ensures .0) ∙ ap checkedOf (c .before .before .checked .given .1)) (c .refused .ensures),
       refl,
     )

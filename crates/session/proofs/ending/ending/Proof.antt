@@ -1,13 +1,13 @@
 -- `session::ending::ending` meets its contract: the rules in arrays unlock what the policy's rules unlock. Assumes nothing.
 use mathlib.Core.Path.{_∙_}
 use denote.Ref.{now}
-use Rattle.atoms.proofs.ByteLaws.{slice-bytes}
-use Rattle.evaluation.proofs.HeadLaws.{room-start}
+use Rattle.encoding.proofs.ByteLaws.{slice-bytes}
+use Rattle.records.specs.Policies.{policyOf}
+use Rattle.arrays.proofs.HeadLaws.{room-start}
 use Rattle.question.specs.Types.{foundOf}
 use Rattle.session.proofs.ProgramLaws.{ends-found, ends-grant, locked-alone, obtainable-apart}
 use borrow.Author.Needs.{needs}
 use native.Mathlib.Omega.{arith}
-use Rattle.session.specs.Endings.{policyOf}
 use Rattle.session.proofs.ending.ending.Statement.{statement}
 use Rattle.session.proofs.ending.ending.Tie as tie
 
@@ -43,12 +43,16 @@ preferred-requires c κs =
     let bytes = now (a .policy) in
     let rules = c .before .before .before .before .before .before .before .before .before .before .before .before .access-rules in
     let u = c .before .before .before .before .before .before .unlocks in
-    let within = c .before .before .before .before .obtainable in (
-      (rules .ensures .placed, (omega (arith, known .before .pre .1), obtainable-apart (policyOf bytes) (a .shown) (a .declined) (within .result) (within .ensures))),
-      locked-alone bytes (slice-bytes bytes (known .shared-slice-known .given)) (known .before .pre .0) _ _ _ _ (rules .ensures) (a .request) (a .shown) (a .declined) _
-          (c .before .before .before .before .before .before .before .before .before .before .before .credentials .ensures) (u .result) (u .ensures)
-          (c .before .before .before .before .before .if1 .left),
-    )
+    let within = c .before .before .before .before .obtainable in
+    record {
+      placed = rules .ensures .placed;
+      atom = omega (arith, known .before .pre .1);
+      apart = obtainable-apart (policyOf bytes) (a .shown) (a .declined) (within .result) (within .ensures);
+      alone =
+          locked-alone bytes (slice-bytes bytes (known .shared-slice-known .given)) (known .before .pre .0) _ _ _ _ (rules .ensures) (a .request) (a .shown)
+          (a .declined) _ (c .before .before .before .before .before .before .before .before .before .before .before .credentials .ensures) (u .result)
+          (u .ensures) (c .before .before .before .before .before .if1 .left);
+    }
 
 concluded-requires : tie.Need-concluded-requires
 concluded-requires c κs = search needs

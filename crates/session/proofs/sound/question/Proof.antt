@@ -16,7 +16,7 @@ returns : tie.Need-returns
 returns c = simp (c .enum-told .given .1)
 
 returns-2 : tie.Need-returns-2
-returns-2 c = search needs
+returns-2 c = simp (c .before .phase .given .1)
 
 returns-3 : tie.Need-returns-3
 returns-3 c = simp (c .enum-told2 .given .1)

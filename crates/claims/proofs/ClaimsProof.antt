@@ -1,0 +1,75 @@
+-- Every theorem of specs/Claims. Assumes nothing.
+use mathlib.Core.Path.{refl}
+use Rattle.encoding.proofs.TheoremsProof as encoding
+use Rattle.lists.proofs.TheoremsProof as run
+use Rattle.validation.proofs.TheoremsProof as validation
+use Rattle.atoms.proofs.MeaningProof.{meaning}
+use Rattle.rules.proofs.TheoremsProof as rules
+use Rattle.records.proofs.TheoremsProof as records
+use Rattle.form.proofs.TheoremsProof as form
+use Rattle.policy.proofs.TheoremsProof as policy
+use Rattle.arrays.proofs.TheoremsProof as arrays
+use Rattle.layout.proofs.TheoremsProof as layout
+use Rattle.disclosure.proofs.TheoremsProof as disclosure
+use Rattle.model.proofs.TheoremsProof as model
+use Rattle.preference.proofs.TheoremsProof as preference
+use Rattle.preference.proofs.OrderTheoremsProof as order
+use Rattle.preference.proofs.SwitchLaws as switching
+use Rattle.relevance.proofs.TheoremsProof as relevance
+use Rattle.search.proofs.TheoremsProof as search
+use Rattle.question.proofs.TheoremsProof as question
+use Rattle.rounds.proofs.TheoremsProof as rounds
+use Rattle.demands.proofs.Demand1Proof.{demand1}
+use Rattle.demands.proofs.Demand3Proof.{demand3-holds}
+use Rattle.demands.proofs.ListLaws.{lists-mean}
+use Rattle.demands.proofs.PromiseProof.{opening-promise, round-promise}
+use Rattle.demands.proofs.VisitProof.{always-sound, visits-mean}
+use Rattle.marked.proofs.MarkedCases.{marked}
+use Rattle.session.proofs.TheoremsProof as session
+use Rattle.replay.proofs.TheoremsProof as replay
+use Rattle.packing.proofs.TheoremsProof as packing
+use Rattle.claims.specs.Claims.{Claims}
+
+pub claims : Claims
+claims = record {
+  constants = record {
+    last-credential = refl;
+    first-derived = refl;
+    last-derived = refl;
+    breach-mark = refl;
+    access = refl;
+    disclosure = refl;
+    refused-6-at-0 = (refl, refl);
+    refused-n-at-k = λ n k. (refl, refl);
+  };
+  bytes = encoding.theorems;
+  tests = validation.theorems;
+  sets = meaning;
+  models = rules.theorems;
+  encoding = records.theorems;
+  policies = form.theorems;
+  checks = policy.theorems;
+  arrays = arrays.theorems;
+  laid-out = layout.theorems;
+  disclosures = disclosure.theorems;
+  answers = model.theorems;
+  preferred = preference.theorems;
+  orders = order.theorems;
+  switches = switching.theorems;
+  relevances = relevance.theorems;
+  searches = search.theorems;
+  questions = question.theorems;
+  sessions = rounds.theorems;
+  types = session.theorems;
+  opens = λ r l. opening-promise r;
+  demand1 = λ bytes b s m l. demand1 bytes b s m;
+  demand2 = λ bytes b s m l. round-promise bytes b s m;
+  demand3 = demand3-holds;
+  lists = lists-mean;
+  runs = run.theorems;
+  program = replay.theorems;
+  always-sound = always-sound;
+  visits = visits-mean;
+  exported = packing.theorems;
+  marked = marked;
+}

@@ -1,0 +1,3 @@
+-- The laws of bytes, and the theorems.
+pub mod ByteLaws
+pub mod TheoremsProof

@@ -1,0 +1,92 @@
+-- Document 01, "Who can be turned back": the policy's test, computed. specs/Theorems says that it accepts exactly the written form and gives every
+-- other policy its refusal. Assumes nothing.
+use mathlib.Core.Path.{_≡_}
+use mathlib.Core.Bool.{Bool, _&&_, _||_, cond, not, true}
+use mathlib.Core.List.{List, [], _++_, _∷_}
+use mathlib.Core.Option.{Option}
+use Prim.Native.Nat.{_%_, _^_, suc, zero, ℕ}
+use lib.Dec.{eqb, leb, ltb}
+use lib.ListN.{length}
+use Rattle.validation.specs.Tests.{firstFailed, relabelled}
+use Rattle.atoms.specs.Atoms.{firstDerived, lastCredential, violation}
+use Rattle.atoms.specs.Sets.{empty, member}
+use Rattle.rules.specs.Rules.{Rule}
+use Rattle.records.specs.Levels.{level}
+use Rattle.records.specs.Records.{Record, accessKind, disclosureKind, recordAt, recordsBefore, wholeRecords}
+use Rattle.form.specs.WrittenForm.{Refusal, at}
+
+-- ---- the tests of a record
+
+-- "An access head is 16 to 63."
+abbrev pub accessHead : Rule → Bool
+accessHead r = leb firstDerived (r .head) && leb (r .head) violation
+
+-- "A disclosure head is 0 to 15"
+abbrev pub disclosureHead : Rule → Bool
+disclosureHead r = leb (r .head) lastCredential
+
+-- "Atom 63 stands in no body."
+abbrev pub accessBody : Rule → Bool
+accessBody r = not (member violation (r .positive)) && not (member violation (r .negated))
+
+-- "its body has only credentials, none negated"; "a set of credentials is a 16-bit number"
+abbrev pub disclosureBody : Rule → Bool
+disclosureBody r = ltb (r .positive) (2 ^ 16) && eqb (r .negated) empty
+
+-- f passes for every atom below n that s has
+unfoldable pub forAtoms : ℕ → ℕ → (ℕ → Bool) → Bool
+forAtoms zero s f = true
+forAtoms (suc n) s f = (not (member n s) || f n) && forAtoms n s f
+
+-- "no positive atom's level is above the head's, and every negated atom's level is smaller than the head's"
+unfoldable pub accessLevels : Rule → Bool
+accessLevels r =
+    forAtoms 64 (r .positive) (λ a. leb (level a) (level (r .head)))
+    && forAtoms 64 (r .negated) (λ a. ltb (level a) (level (r .head)))
+
+-- a of an access record, b of a disclosure record
+abbrev pub byKind : Record → Bool → Bool → Bool
+byKind d a b = cond (eqb (d .kind) accessKind) a (cond (eqb (d .kind) disclosureKind) b true)
+
+-- the tests of the record d in order, after the records `before`, each beside its number
+abbrev pub recordTests : List Record → Record → List (Bool × ℕ)
+recordTests before d =
+    (eqb (d .kind) accessKind || eqb (d .kind) disclosureKind, 3)
+    ∷ (byKind d (accessHead (d .rule)) (disclosureHead (d .rule)), 4)
+    ∷ (byKind d (accessBody (d .rule)) (disclosureBody (d .rule)), 5)
+    ∷ (byKind d (accessLevels (d .rule)) true, 6)
+    ∷ []
+
+-- ---- the tests of a policy, in the order of PolicyForm
+
+-- "1: more than 2,304 bytes; record number 128." "2: length not a multiple of 18; number of whole records."
+abbrev pub lengthTests : List ℕ → List (Bool × Refusal)
+lengthTests bytes = (leb (length bytes) 2304, at 1 128) ∷ (eqb (length bytes % 18) 0, at 2 (wholeRecords bytes)) ∷ []
+
+-- a record's tests, each beside a refusal at record k
+abbrev pub atRecord : ℕ → List (Bool × ℕ) → List (Bool × Refusal)
+atRecord k ts = relabelled (λ m. at m k) ts
+
+-- o is the refusal of record k, which says d, whatever records come before it
+abbrev pub AnswersRecord : Record → ℕ → Option Refusal → Type 0
+AnswersRecord d k o = (before : List Record) → o ≡ firstFailed (atRecord k (recordTests before d))
+
+-- the tests of record k
+abbrev pub testsAt : List ℕ → ℕ → List (Bool × Refusal)
+testsAt bytes k = atRecord k (recordTests (recordsBefore bytes k) (recordAt bytes k))
+
+-- "records are tested in turn": record k and those after it, n in all
+unfoldable pub testsFrom : List ℕ → ℕ → ℕ → List (Bool × Refusal)
+testsFrom bytes k zero = []
+testsFrom bytes k (suc n) = testsAt bytes k ++ testsFrom bytes (suc k) n
+
+-- those of the policy as a whole
+abbrev pub wholeTests : List ℕ → List (Bool × Refusal)
+wholeTests bytes = []
+
+unfoldable pub policyTests : List ℕ → List (Bool × Refusal)
+policyTests bytes = lengthTests bytes ++ (testsFrom bytes 0 (wholeRecords bytes) ++ wholeTests bytes)
+
+-- the policy's test: its refusal, or none where it is accepted
+unfoldable pub policyRefusal : List ℕ → Option Refusal
+policyRefusal bytes = firstFailed (policyTests bytes)

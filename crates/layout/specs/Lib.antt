@@ -1,0 +1,2 @@
+-- What a policy's access rules in arrays come to.
+pub mod Theorems

@@ -1,0 +1,2 @@
+-- The proofs of the marked cases.
+pub mod MarkedCases

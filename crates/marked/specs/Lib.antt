@@ -1,0 +1,2 @@
+-- The marked cases of document 01.
+pub mod Marked

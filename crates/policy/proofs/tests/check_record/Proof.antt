@@ -1,0 +1,65 @@
+-- `policy::tests::check_record` meets its contract: each kind takes its own tests. Assumes nothing.
+use mathlib.Core.Path.{sym}
+use borrow.Author.Needs.{needs}
+use Rattle.records.specs.Types.{recordOf}
+use Rattle.policy.proofs.KindLaws.{access-refusal, disclosure-refusal, other-refusal}
+use Rattle.policy.proofs.tests.check_record.Statement.{statement}
+use Rattle.policy.proofs.tests.check_record.Tie as tie
+
+access-head-requires : tie.Need-access-head-requires
+access-head-requires c κs = search needs
+
+access-body-requires : tie.Need-access-body-requires
+access-body-requires c κs = search needs
+
+access-levels-requires : tie.Need-access-levels-requires
+access-levels-requires c κs = search needs
+
+first-failed-requires : tie.Need-first-failed-requires
+first-failed-requires c κs = search needs
+
+disclosure-head-requires : tie.Need-disclosure-head-requires
+disclosure-head-requires c κs = search needs
+
+disclosure-body-requires : tie.Need-disclosure-body-requires
+disclosure-body-requires c κs = search needs
+
+first-failed-requires-2 : tie.Need-first-failed-requires-2
+first-failed-requires-2 c κs = search needs
+
+returns : tie.Need-returns
+returns c before =
+    let a = c .before .before .before .before .before .args in
+    simp (
+      access-refusal before (recordOf (a .parsed)) (a .k) (c .before .before .before .before .match .keys1),
+      ← c .before .before .before .access-head .ensures,
+      ← c .before .before .access-body .ensures,
+      ← c .before .access-levels .ensures,
+    ) (c .first-failed .ensures)
+
+returns-2 : tie.Need-returns-2
+returns-2 c before =
+    let a = c .before .before .before .before .args in
+    simp (
+      disclosure-refusal before (recordOf (a .parsed)) (a .k) (c .before .before .before .match .keys2),
+      ← c .before .before .disclosure-head .ensures,
+      ← c .before .disclosure-body .ensures,
+    ) (c .first-failed2 .ensures)
+
+returns-3 : tie.Need-returns-3
+returns-3 c before = sym (other-refusal before (recordOf (c .before .args .parsed)) (c .before .args .k) (c .match .rest .0 .1) (c .match .rest .1))
+
+pub check-record-spec : {M : Type 1} → statement M
+check-record-spec =
+    tie.close
+    (tie.spec
+    access-head-requires
+    access-body-requires
+    access-levels-requires
+    first-failed-requires
+    disclosure-head-requires
+    disclosure-body-requires
+    first-failed-requires-2
+    returns
+    returns-2
+    returns-3)

@@ -1,0 +1,77 @@
+// The tests of one record: refusals 3 to 6.
+ghost use mathlib.Core.Path.{_≡_};
+ghost use mathlib.Core.List.{[], _∷_};
+ghost use Rattle.validation.specs.Tests.{firstFailed};
+ghost use Rattle.records.specs.Types.{recordOf};
+ghost use Rattle.form.specs.PolicyTest.{AnswersRecord, accessBody, accessHead, atRecord, disclosureBody, disclosureHead};
+ghost use Rattle.policy.specs.Types.{checkedOf};
+use crate::Checked;
+use crate::levels::access_levels;
+use crate::refusal::Refusal;
+use atoms::FIRST_DERIVED;
+use atoms::LAST_CREDENTIAL;
+use atoms::VIOLATION;
+use records::ACCESS;
+use records::DISCLOSURE;
+use records::Record;
+
+// The test of record k, which needs none of the records before it.
+pub(crate) fn check_record(parsed: Record, k: u8) -> Checked
+    ensures { λ r. ⌜ AnswersRecord (recordOf parsed) k (checkedOf r) ⌝ }
+{
+    let kind = parsed.kind;
+    match kind {
+        ACCESS => first_failed(
+            access_head(parsed),
+            access_body(parsed),
+            access_levels(parsed),
+            k,
+        ),
+        DISCLOSURE => first_failed(disclosure_head(parsed), disclosure_body(parsed), true, k),
+        _ => Checked::Refused(Refusal::Kind(k)),
+    }
+}
+
+// The refusal of the first test that fails, at record k.
+fn first_failed(head: bool, body: bool, levels: bool, k: u8) -> Checked
+    ensures { λ r. ⌜ checkedOf r ≡ firstFailed (atRecord k ((head, 4) ∷ (body, 5) ∷ (levels, 6) ∷ [])) ⌝ }
+{
+    if !head {
+        return Checked::Refused(Refusal::Head(k));
+    }
+    if !body {
+        return Checked::Refused(Refusal::Body(k));
+    }
+    if !levels {
+        return Checked::Refused(Refusal::Level(k));
+    }
+    Checked::Accepted
+}
+
+// 16 to 63.
+fn access_head(parsed: Record) -> bool
+    ensures { λ r. ⌜ r ≡ accessHead (recordOf parsed .rule) ⌝ }
+{
+    FIRST_DERIVED <= parsed.head && parsed.head <= VIOLATION
+}
+
+// Atom 63 on neither side.
+fn access_body(parsed: Record) -> bool
+    ensures { λ r. ⌜ r ≡ accessBody (recordOf parsed .rule) ⌝ }
+{
+    !parsed.positive.contains(VIOLATION) && !parsed.negated.contains(VIOLATION)
+}
+
+// 0 to 15.
+fn disclosure_head(parsed: Record) -> bool
+    ensures { λ r. ⌜ r ≡ disclosureHead (recordOf parsed .rule) ⌝ }
+{
+    parsed.head <= LAST_CREDENTIAL
+}
+
+// Only credentials, none negated.
+fn disclosure_body(parsed: Record) -> bool
+    ensures { λ r. ⌜ r ≡ disclosureBody (recordOf parsed .rule) ⌝ }
+{
+    parsed.positive.bits < 0x1_0000 && parsed.negated.bits == 0
+}

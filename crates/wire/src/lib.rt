@@ -1,0 +1,3 @@
+// Sessions as ten bytes, answers as numbers.
+pub mod packed;
+pub mod reply;
