@@ -16,8 +16,13 @@ stdin, for each case, with numbers of two bytes, little-endian:
         what is shown in the round
     of a list: the request, how many rounds there are, four at most, and four numbers, what is shown in each round
 stdout: the line of each case, with the answer.
+
+The cases were chosen by wrong readings of document 01: every comparison of level, fault, tested, is_service, is_sound and refusal off by one
+either way, every clause dropped or turned round, every test before another, every edge of a range, a level or a length moved, one value let
+in or shut out. Each changes at least two lines, save those that say the same in other words, such as 9 for the level of 63.
 """
 import collections
+import itertools
 import re
 import struct
 import sys
@@ -40,24 +45,60 @@ kind 1 head 17
 kind 2 head 0
 kind 3 head 16
 kind 255 head 16
+kind 0 head 0
+kind 3 head 0
+kind 255 head 0
+kind 255 head 63 if 62
 "An access head is 16 to 63."
 kind 1 head 15
 kind 1 head 16
 kind 1 head 63
 kind 1 head 64
 kind 1 head 255
+kind 1 head 0
+kind 1 head 0 if 0
+kind 1 head 15 if 0
+kind 1 head 62
+kind 1 head 64 if 0
+kind 1 head 80
+kind 1 head 255 if 0
 "A disclosure head is 0 to 15"
 kind 2 head 15
 kind 2 head 16
 kind 2 head 63
 kind 2 head 64
 kind 2 head 255
+kind 2 head 7
+kind 2 head 15 if 0
+kind 2 head 16 if 0
+kind 2 head 62
+kind 2 head 62 if 0
+kind 2 head 63 if 0
+kind 2 head 64 if 0
+kind 2 head 255 if 0
 "Atom 63 stands in no body."
 kind 1 head 63 if 62
 kind 1 head 63 if 63
 kind 1 head 63 not 62
 kind 1 head 63 not 63
+kind 1 head 16 not 63
+kind 1 head 16 if 63 not 63
+kind 1 head 16 if 0 not 63
+kind 1 head 16 if 0 if 63
+kind 1 head 17 not 63
+kind 1 head 24 not 63
+kind 1 head 40 not 63
+kind 1 head 62 if 63
+kind 1 head 62 not 63
+kind 1 head 62 if 63 not 63
+kind 1 head 62 if 0 not 63
+kind 1 head 62 if 0 if 63
+kind 1 head 63 if 63 not 63
+kind 1 head 63 if 0 not 63
+kind 1 head 63 if 0 if 63
 kind 1 head 24 if 3 not 3
+kind 1 head 63 if 62 not 62
+kind 1 head 63 if 0 not 62
 "its body has only credentials, none negated"
 kind 2 head 0 if 15
 kind 2 head 0 if 16
@@ -65,6 +106,26 @@ kind 2 head 0 if 63
 kind 2 head 0 not 0
 kind 2 head 0 not 63
 kind 2 head 0 if 0
+kind 2 head 15 if 15
+kind 2 head 0 if 1 if 16
+kind 2 head 0 if 62
+kind 2 head 15 if 16
+kind 2 head 15 if 62
+kind 2 head 15 if 63
+kind 2 head 15 if 15 if 63
+kind 2 head 1 if 0 if 8
+kind 2 head 15 not 0
+kind 2 head 0 not 15
+kind 2 head 15 not 15
+kind 2 head 0 not 16
+kind 2 head 15 not 16
+kind 2 head 0 not 62
+kind 2 head 15 not 62
+kind 2 head 15 not 63
+kind 2 head 0 if 1 not 0
+kind 2 head 15 if 0 not 16
+kind 2 head 15 if 0 not 62
+kind 2 head 0 if 1 not 63
 "no positive atom's level is above the head's"
 kind 1 head 16 if 15
 kind 1 head 16 if 23
@@ -101,6 +162,18 @@ kind 0 head 255 if 63 not 63
 kind 1 head 15 if 63
 kind 1 head 16 if 63
 kind 2 head 16 if 63
+kind 0 head 15
+kind 3 head 16 not 63
+kind 3 head 255
+kind 255 head 16 not 16
+kind 1 head 15 not 63
+kind 1 head 15 if 24
+kind 1 head 64 not 63
+kind 2 head 16 not 63
+kind 2 head 16 not 0
+kind 2 head 63 not 63
+kind 1 head 62 if 63 not 62
+kind 1 head 16 if 24 not 63
 """
 
 
@@ -224,21 +297,35 @@ def replay(name, records, request, shown):
     return Case(LIST, name, policy, fresh(request), shown, replayed(policy, request, shown))
 
 
+def level_edges():
+    """The first and last atom of each level as heads, over those of the same level and of the levels beside it."""
+    edges = [(8 * k, min(8 * k + 7, 62)) for k in range(8)] + [(63,)]
+    for k in range(2, 9):
+        beside = [atom for some in edges[k - 1 : k + 2] for atom in some]
+        for head, word, atom in itertools.product(edges[k], ("if", "not"), beside):
+            yield f"kind 1 head {head} {word} {atom}"
+
+
 def one_record():
-    for name in re.findall("^kind.*", ONE_RECORD, re.M):
+    for name in dict.fromkeys([*re.findall("^kind.*", ONE_RECORD, re.M), *level_edges()]):
         kind, head = map(int, re.match(r"kind (\d+) head (\d+)", name).groups())
         positive, negated = (set(map(int, re.findall(rf"{word} (\d+)", name))) for word in ("if", "not"))
         yield test(name, 18, [(kind, head, positive, negated)])
 
 
 def policies():
-    for length in (0, 17, 18, 19, 2303, 2304, 2305, 2322):
-        yield test(f"{length} bytes", length, [ALWAYS_16] * 129)
+    for length in (0, 17, 18, 19, 2303, 2304, 2305, 2322, 1, 6, 9, 27, 30, 35, 36, 2286, 2306, 2323, 2340, 3006):
+        yield test(f"{length} bytes", length, [ALWAYS_16] * 167)
     yield from one_record()
     yield test("16 if 0, 1", 18, [(1, 16, {0, 1}, set())])
     yield test("16 if 0, 24", 18, [(1, 16, {0, 24}, set())])
     yield test("24 if not 0, not 1", 18, [(1, 24, set(), {0, 1})])
     yield test("24 if not 0, not 24", 18, [(1, 24, set(), {0, 24})])
+    yield test("62 if 55, 62, not 54, 55", 18, [(1, 62, {55, 62}, {54, 55})])
+    yield test("55 if 16, 56", 18, [(1, 55, {16, 56}, set())])
+    yield test("55 if 56, not 16", 18, [(1, 55, {56}, {16})])
+    yield test("24 if 31, 32, not 23", 18, [(1, 24, {31, 32}, {23})])
+    yield test("62 if 16, not 15, not 56", 18, [(1, 62, {16}, {15, 56})])
 
 
 def records_in_turn():
@@ -249,6 +336,15 @@ def records_in_turn():
     yield test("6 at record 0, 3 at record 1", 2304, [six, three, *last])
     yield test("the same, cut short", 2303, [six, three, *last])
     yield test("the same, too long", 2305, [six, three, *last])
+    faults = {3: three, 4: (2, 16, set(), set()), 5: (2, 0, set(), {16}), 6: six}
+    for (first, one), (second, other) in itertools.combinations(faults.items(), 2):
+        yield test(f"{second} at record 0, {first} at record 1, 36 bytes", 36, [other, one])
+        yield test(f"{first} at record 0, {second} at record 1, 36 bytes", 36, [one, other])
+    for broken, record in faults.items():
+        yield test(f"{broken} at record 0, 35 bytes", 35, [record, record])
+        yield test(f"{broken} at record 1, 54 bytes", 54, [ALWAYS_16, record, ALWAYS_16])
+        yield test(f"{broken} at record 127, 2304 bytes", 2304, [ALWAYS_16] * 127 + [record])
+        yield test(f"{broken} at record 128, 2322 bytes", 2322, [ALWAYS_16] * 128 + [record])
 
 
 def under_a(name, session, shown):
@@ -274,6 +370,37 @@ def soundness():
         yield under_a(f"count {count} of 16", waiting(4, 0xFF00, 0xFB, count), 4)
 
 
+def fresh_sessions():
+    for some in (1, 0x80, 0x100, 0x8000):
+        yield under_a(f"fresh, {some:04x} shown", fresh(16, shown=some), 3)
+        yield under_a(f"fresh, {some:04x} declined", fresh(16, declined=some), 3)
+    for count, shown in itertools.product((1, 2, 255), (0, 3)):
+        yield under_a(f"fresh, count {count}, {shown:04x} shown now", fresh(16, count=count), shown)
+    yield under_a("fresh, in both, count 0", fresh(16, 6, 6), 3)
+    yield under_a("fresh, in both, count 2", fresh(16, 6, 6, 2), 3)
+
+
+def questions():
+    """Q empty; in P or N, with a part or as a whole, in either byte; beside them."""
+    for shown, declined in ((0x20, 0), (0, 0x8000), (0x8001, 0x42)):
+        yield under_a(f"Q empty, {shown:04x} shown, {declined:04x} declined", waiting(0, shown, declined, 1), 4)
+    for question, met in ((3, 1), (4, 4), (0x8001, 0x8000), (0x300, 0x300), (0x180, 0x100), (0x8000, 0x8000), (7, 6)):
+        yield under_a(f"Q {question:04x}, {met:04x} shown", waiting(question, met, 0, 1), 4)
+        yield under_a(f"Q {question:04x}, {met:04x} declined", waiting(question, 0, met, 1), 4)
+        yield under_a(f"Q {question:04x}, {met:04x} in both", waiting(question, met, met, 1), 4)
+    for question in (1, 0x80, 0x8000, 0x7F00, 0x1004):
+        yield under_a(f"Q {question:04x}, the rest shown or declined", waiting(question, 0xFF & ~question, 0xFF00 & ~question, 8), 0)
+
+
+def counts():
+    """The least and the greatest count, those beside them, and 255, where P and N are empty, one is, they meet, or are all."""
+    for shown, declined in ((0, 0), (0x20, 0), (0xE0, 0), (0, 0x8100), (0x60, 0x60), (0x4021, 0x8060), (0xFF00, 0xFB), (0xFFFB, 0xFF03)):
+        most = 1 + len(credentials(shown | declined))
+        for word, count in itertools.product(PHASES[1:], sorted({0, 1, most, most + 1, 255})):
+            session = made(16, shown, declined, count, word, 4 if word == "waiting" else 0)
+            yield under_a(f"{word}, {shown:04x} shown, {declined:04x} declined, count {count} of {most}", session, 0)
+
+
 def closed_sessions():
     yield under_a("granted", granted(3, 4, 3), 1)
     yield under_a("denied", denied(16, 0, 0, 1), 3)
@@ -285,6 +412,10 @@ def closed_sessions():
     yield under_a("in both, count 4 of 3", denied(16, 3, 2, 4), 0)
     yield under_a("count 17 of 17", denied(16, 0xFFFF, 3, 17), 0)
     yield under_a("count 18 of 17", denied(16, 0xFFFF, 3, 18), 0)
+    for count in (16, 17, 18):
+        yield under_a(f"granted, count {count} of 17", granted(0xFFFF, 3, count), 0)
+        yield under_a(f"granted, all declined, count {count} of 17", granted(0, 0xFFFF, count), 0)
+        yield under_a(f"denied, all declined, count {count} of 17", denied(16, 0, 0xFFFF, count), 0)
 
 
 def order():
@@ -297,14 +428,28 @@ def order():
     yield round_in("request 63, denied", empty, denied(63, 1, 2, 3), 4)
     yield round_in("granted, not sound", empty, granted(1, 2, 4), 4)
     yield round_in("granted, sound", empty, granted(1, 2, 3), 4)
+    refused = ("1 byte", one_byte), ("kind 3", whole([(3, 16, set(), set())])), ("17 if not 24", whole([(1, 17, set(), {24})]))
+    for (name, policy), request in itertools.product(refused, (15, 63, 272)):
+        yield round_in(f"{name}, fresh, request {request}", policy, fresh(request), 3)
+        yield round_in(f"{name}, denied, request {request}", policy, denied(request, 0, 0, 1), 3)
+    for name, policy in refused[1:]:
+        yield round_in(f"{name}, Q empty", policy, waiting(0, 1, 2, 3), 4)
+        yield round_in(f"{name}, granted", policy, granted(1, 2, 3), 4)
+        yield round_in(f"{name}, granted, not sound", policy, granted(1, 2, 4), 4)
+    for request in (15, 63, 272):
+        yield round_in(f"empty, Q empty, request {request}", empty, made(request, 1, 2, 3, "waiting"), 4)
+        yield round_in(f"empty, denied, request {request}", empty, denied(request, 0, 0, 1), 4)
 
 
 def sessions():
-    for request in (0, 15, 16, 62, 63, 255, 272, 65535):
+    for request in (0, 15, 16, 62, 63, 255, 272, 65535, 17, 40, 61, 64, 80):
         yield opening(request)
-    for request in (15, 16, 62, 63, 272):
+    for request in (15, 16, 62, 63, 272, 0, 17, 40, 61, 64, 80, 65535):
         yield under_a(f"request {request}", fresh(request), 5 if request == 63 else 3)
     yield from soundness()
+    yield from fresh_sessions()
+    yield from questions()
+    yield from counts()
     yield from closed_sessions()
     yield from order()
     yield under_a("16 and no breach", fresh(16), 4)
@@ -362,6 +507,9 @@ def replays():
     yield replay("list of none, request 15", POLICY_A, 15, ())
     yield replay("list of 3, request 15", POLICY_A, 15, shown[:3])
     yield replay("list of 3, request 272", POLICY_A, 272, shown[:3])
+    for request in (0, 16, 17, 40, 61, 62, 63, 64, 80, 272, 65535):
+        yield replay(f"list of none, request {request}", [], request, ())
+        yield replay(f"list of 1, request {request}", [ALWAYS_16], request, (0,))
     broken = [(1, 17, set(), {24})]
     for n in range(3):
         yield replay(f"17 if not 24, list of {n or 'none'}", broken, 16, shown[:n])

@@ -1,55 +1,31 @@
-// The bench program (document 01, "The bench program"): sessions by hand, a line a round.
-use input::Input;
-use policy::Checked;
-use session::Move;
-use session::Opened;
-use session::Session;
+// The bench program (document 01, "The bench program"). It opens, reads and writes; what it prints is worked out by `console`.
+ghost use Rattle.lines.specs.Lines.{Room};
+use console::reader::Reader;
+use libc::STDIN_FILENO;
+use libc::STDOUT_FILENO;
+use lines::line::Line;
 
-mod input;
-mod line;
-mod print;
+mod policy_file;
 
 enum Next {
-    Round(Session),
+    Byte(Reader),
     End,
 }
 
 fn main() {
-    let mut space = [0u8; input::POLICY_BYTES];
-    let bytes = input::policy(&mut space);
+    let mut space = console::room();
+    let bytes = policy_file::read(&mut space);
     run(&space[..bytes]);
 }
 
-// Waits for the request; without one, nothing is tested or printed.
+// A proved loop has to end, and nothing says that the input does: bytes are counted down from more than any run has.
 fn run(policy: &[u8]) {
-    let input = input::record();
-    let Input::Record(request) = input else {
-        return;
-    };
-    let checked = policy::check(policy);
-    let Checked::Refused(refusal) = checked else {
-        open(policy, request);
-        return;
-    };
-    print::policy_refused(refusal);
-}
-
-// A session under an accepted policy.
-fn open(policy: &[u8], request: u16) {
-    match Session::open(request) {
-        Opened::Fresh(session) => rounds(policy, session),
-        Opened::Refused(refusal) => print::refused(refusal),
-    }
-}
-
-// A proved loop has to end, and nothing says that the input does: rounds are counted down from more than any run has.
-fn rounds(policy: &[u8], fresh: Session) {
-    let mut session = fresh;
+    let mut reader = Reader::begin();
     let mut left = u64::MAX;
     while left > 0 {
-        match round(policy, session) {
-            Next::Round(after) => {
-                session = after;
+        match step(policy, reader) {
+            Next::Byte(after) => {
+                reader = after;
             }
             Next::End => {
                 return;
@@ -59,15 +35,26 @@ fn rounds(policy: &[u8], fresh: Session) {
     }
 }
 
-// Waits for a shown set and prints the round's line.
-fn round(policy: &[u8], session: Session) -> Next {
-    let input = input::record();
-    let Input::Record(shown) = input else {
+// Waits for a byte and prints what it prints. Ends with the output, with the input, or where a line cannot be written.
+fn step(policy: &[u8], reader: Reader) -> Next {
+    let mut byte = [0u8; 1];
+    if reader.ended() || libc::read(STDIN_FILENO, &mut byte) != 1 {
         return Next::End;
-    };
-    let outcome = session.round(policy, Move { shows: shown });
-    let answer = outcome.answer;
-    let after = outcome.session;
-    print::answer(answer, after.count, shown);
-    Next::Round(after)
+    }
+    let step = reader.next(policy, byte[0]);
+    let line = step.line;
+    let after = step.reader;
+    if !print(line) {
+        return Next::End;
+    }
+    Next::Byte(after)
+}
+
+// Whether the line is written.
+fn print(line: Line) -> bool
+    requires { ⌜ Room line 0 ⌝ }
+{
+    let bytes = line.bytes;
+    let length = line.length;
+    io::write_all(STDOUT_FILENO, &bytes[..length])
 }

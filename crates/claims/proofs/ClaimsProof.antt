@@ -19,15 +19,19 @@ use Rattle.relevance.proofs.TheoremsProof as relevance
 use Rattle.search.proofs.TheoremsProof as search
 use Rattle.question.proofs.TheoremsProof as question
 use Rattle.rounds.proofs.TheoremsProof as rounds
+use Rattle.demands.proofs.AdmittanceProof.{admittance}
 use Rattle.demands.proofs.Demand1Proof.{demand1}
 use Rattle.demands.proofs.Demand3Proof.{demand3-holds}
 use Rattle.demands.proofs.ListLaws.{lists-mean}
+use Rattle.demands.proofs.LongestProof.{longest}
 use Rattle.demands.proofs.PromiseProof.{opening-promise, round-promise}
-use Rattle.demands.proofs.VisitProof.{always-sound, visits-mean}
+use Rattle.demands.proofs.VisitProof.{always-sound, rounds-keep-sound, visits-mean}
 use Rattle.marked.proofs.MarkedCases.{marked}
 use Rattle.session.proofs.TheoremsProof as session
 use Rattle.replay.proofs.TheoremsProof as replay
 use Rattle.packing.proofs.TheoremsProof as packing
+use Rattle.transcript.proofs.TheoremsProof as transcript
+use Rattle.console.proofs.TheoremsProof as console
 use Rattle.claims.specs.Claims.{Claims}
 
 pub claims : Claims
@@ -65,11 +69,16 @@ claims = record {
   demand1 = λ bytes b s m l. demand1 bytes b s m;
   demand2 = λ bytes b s m l. round-promise bytes b s m;
   demand3 = demand3-holds;
+  admittance = admittance;
   lists = lists-mean;
   runs = run.theorems;
   program = replay.theorems;
+  stays-sound = rounds-keep-sound;
   always-sound = always-sound;
+  longest = longest;
   visits = visits-mean;
   exported = packing.theorems;
   marked = marked;
+  printed = transcript.theorems;
+  steps = console.theorems;
 }

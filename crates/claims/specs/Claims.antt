@@ -1,13 +1,40 @@
 -- The theorems of the gate that a customer reads, on one page; proofs/ClaimsProof has them all (the search for C, crate `probe`, has its own). What
--- they leave to belief is that the words in which they are stated say what the paper says: Member and Subset; Every, OneOf, Each and run; AllHold and
--- FirstBroken, Unless and GivenExactly; readRecord, recordAt, rulesOf, policyOf, level and withRecord; Levelled, BodyHolds, ClosedBeside, Least and
--- OneStable; KeepLevels and LaidOut; the statements that PolicyForm and RoundForm list, and Written, RecordAllowed, Faulty, Ragged and RoundNumbers,
--- which say the same without the lists; Closed, Disclosable, Askable and Discloses; Gives; Unlocks, Missing, FirstMissing and Preferred; taken,
--- switched, Members and Different; weightOf, costOf, costIn, Before, place, First and Searched; subsetOf, total and Lighter; Follows, Bearing, Relevant
--- and SameAnswer; SoundSession, SixteenBit and Finished with their parts; Opening, FreshFor and AcceptedRound; roundsOf, visitsOf, acceptedOf,
--- SomeRound, SomeNext, Asks, Final, Over and ByRound; askableCount and lackedCount; Licensed and Client; packed, unpacked, openCall, roundCall,
--- callsFrom and Told; and the maps from the program's types (specs/Types of records, policy, disclosure, model, search, question, session and replay).
--- That lent bytes are not written stands in the contract of each open function, and demand 3 of a whole list in that of `replay`. Assumes nothing.
+-- they leave to belief is that the words in which they are stated say what the paper says. These are, crate by crate:
+-- encoding: Bytes, bytesOf, littleEndian
+-- lists: Every, OneOf, Each, passed, Turn, run, last, reached
+-- validation: AllHold, FirstBroken, BrokenThere, DecideAll, relabelled, Unless, GivenExactly
+-- atoms: Member, bit, Subset
+-- rules: Rule, Policy, Headed, Levelled, Stratified, BodyHolds, ClosedBeside, Closed, Least, Stable, OneStable, Unlocks, Equivalent, byLevel,
+--   ofLevel
+-- records: Record, readRecord, recordAt, recordsBefore, recordsOf, rulesOf, policyOf, level, levelCount, Sized, writeRecords, withRecord, _if_not_,
+--   disclose_if_
+-- form: Refusal; the statements that PolicyForm lists, WellFormed, PolicyRefused; and Tested, Numbers, Written, RecordAllowed, Faulty, Ragged, which
+--   say the same without the list; Gives
+-- arrays: rulesIn, Placed, KeepLevels, LaidOut, evaluated
+-- disclosure: Disclosable, Askable, Discloses, GivesDisclosable
+-- model: GivesModel
+-- preference: Question, Preferred, PreferredOf, keys, candidates, opensIn; Before, First, Searched, Result, place, costOf, costIn, weightOf,
+--   weightsOf, equalWeights, total, sum, Lighter, LightestOf, subsetOf, questionAt, questionFor; Members, Different, taken, switched
+-- relevance: Follows, Bearing, Relevant, SameOn, kept, keptLevels, KeptIn, SameAnswer
+-- rounds: Session, Move, showing, Ending, Refusal, Answer, Outcome; Service, SoundSession, SixteenBit, Finished, with their parts; opened, roundsOf;
+--   the statements that RoundForm lists, and RoundNumbers, which says the same without the list
+-- demands: Round, acceptedOf, SomeRound, SomeNext, Asks, Final, Over, ByRound; Demand1; Missing, FirstMissing, DeniedWhen, Demand2; Responds,
+--   sessionFrom and the other clauses of Demand3, askableCount, lackedCount, Licensed, Client, Admitted; FreshFor, Opening, AcceptedRound,
+--   RoundPromise, SoundAndFits, OpeningMeets, RoundMeets; Visit, Fitting, under, visitsOf, AlwaysSound; policyOn, visitOn, changing, asked, AtMost;
+--   policyC, held, shownFirst, unlocking, turnsC, asking
+-- marked: policyA, policyB, unlocksBy, turns, answers, lines, asking
+-- replay: Calls, turnOf, movesOf
+-- packing: Packable, packed, unpacked, tenBytes, Call, openCall, roundCall, callsFrom, checkReply, setReply, setAfter, replyFor, callOf, Told with
+--   its parts, askedIn, and what Examples names
+-- transcript: ascii, Says, Hexadecimal, Decimal; output, inputRecords, recordsOutput, roundLine, roundLines; Reader, begun, isEnded, byteStep,
+--   bytesRun, readStep, readsRun, printedBy
+-- lines: textOf
+-- console: Calls, turnOf, inputOf, readerAfter, readerOf, stepOf
+-- and the cases of the types among them, and the maps from the program's types (specs/Types of records, policy, disclosure, model, search, question,
+-- session and replay; specs/Steps of console). What a word computes is no matter of belief where a theorem here says what it gives: the operations
+-- on sets, the closure, the model, the disclosable set, the tests, the preferred question, the sets shown and declined, the digits. That lent bytes
+-- are not written stands in the contract of each open function, demands 1 and 2 of each call in those of `open` and `round`, and demand 3 of a whole
+-- list in that of `replay`. Assumes nothing.
 use mathlib.Core.Path.{_≡_}
 use mathlib.Core.List.{List}
 use Prim.Native.Nat.{_<_, _^_, ℕ}
@@ -36,14 +63,18 @@ use Rattle.rounds.specs.Moves.{Move}
 use Rattle.rounds.specs.Rounds.{opening, round}
 use Rattle.rounds.specs.Sessions.{Session}
 use Rattle.rounds.specs.Theorems as rounds
+use Rattle.demands.specs.Admittance.{Admittance}
 use Rattle.demands.specs.Demand1.{Demand1}
 use Rattle.demands.specs.Demand3.{Demand3Holds}
 use Rattle.demands.specs.Lists.{ListsMean}
-use Rattle.demands.specs.Promises.{AlwaysSound, Opening, RoundPromise, Visit, VisitsMean}
+use Rattle.demands.specs.Longest.{Longest}
+use Rattle.demands.specs.Promises.{AlwaysSound, Fitting, Opening, RoundPromise, RoundsKeepSound, Visit, VisitsMean}
 use Rattle.marked.specs.Marked.{Marked}
 use Rattle.session.specs.Theorems as session
 use Rattle.replay.specs.Theorems as replay
 use Rattle.packing.specs.Theorems as packing
+use Rattle.transcript.specs.Theorems as transcript
+use Rattle.console.specs.Theorems as console
 use Rattle.claims.specs.Constants.{Constants}
 
 pub record Claims : Type 1 where
@@ -94,12 +125,21 @@ pub record Claims : Type 1 where
   pub demand3 : Demand3Holds
   pub lists : ListsMean
   pub runs : run.Theorems
-  -- demand 3 of the program's calls, and which lists of calls it is about
+  -- demand 3's last sentence is not empty: a client that meets its premise only by what it shows first
+  pub admittance : Admittance
+  -- demand 3 of the program's calls, and which lists of calls it is about; demands 1 and 2 of each call stand in the contracts of `open` and `round`
   pub program : replay.Theorems
+  -- "Every session that opening and rounds give is sound": of one round under any policy, accepted or not
+  pub stays-sound : RoundsKeepSound
   -- "Every session that opening and rounds give is sound, also when policies are changed between rounds. The longest sessions have 17 rounds."
-  pub always-sound : (r : ℕ) (s : Session) → opening r ≡ given s → (vs : List Visit)
-      → Every (λ v. Bytes (v .policy) × (v .takes .shows < 2 ^ 16)) vs → AlwaysSound s vs
+  pub always-sound : (r : ℕ) (s : Session) → opening r ≡ given s → (vs : List Visit) → Every Fitting vs → AlwaysSound s vs
+  -- "The longest sessions have 17 rounds.": 17 are reached, and no smaller number bounds them all
+  pub longest : Longest
+  -- which list of turns those visits are, each under its own policy
   pub visits : VisitsMean
   -- the record of ten bytes and the replies from C, and demand 3 of calls from there
   pub exported : packing.Theorems
   pub marked : Marked
+  -- what the bench program prints, from the bytes of two files, and that its steps print this
+  pub printed : transcript.Theorems
+  pub steps : console.Theorems

@@ -10,3 +10,6 @@ pub mod Demand1Proof
 pub mod PromiseProof
 pub mod Demand3Proof
 pub mod VisitProof
+pub mod SeventeenProof
+pub mod LongestProof
+pub mod AdmittanceProof

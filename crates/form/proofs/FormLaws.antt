@@ -1,4 +1,4 @@
--- What the form of a policy says of each record, and which record is the first at fault. Assumes nothing.
+-- Which record of a policy is the first at fault. Assumes nothing.
 use mathlib.Core.Path.{_≡_, ap, subst, sym}
 use mathlib.Core.Logic.{_↔_, _⊎_, inl, inr}
 use mathlib.Core.List.{List, _++_}
@@ -7,10 +7,10 @@ use native.Mathlib.Nat.{eq-or-lt-of-le}
 use native.Mathlib.Omega.{arith}
 use Rattle.validation.specs.Statements.{AllHold, FirstBroken}
 use Rattle.validation.specs.Tests.{relabelled}
-use Rattle.validation.proofs.FirstLaws.{broken-append, broken-relabelled, hold-append, hold-relabelled}
+use Rattle.validation.proofs.FirstLaws.{broken-append, broken-relabelled, hold-relabelled}
 use Rattle.records.specs.Records.{Record, recordAt, recordsFrom, wholeRecords}
-use Rattle.form.specs.Theorems.{RecordAllowed, Written}
-use Rattle.form.specs.WrittenForm.{Lengths, PolicyForm, PolicyRefused, RecordForm, RecordForms, Refusal, WellFormed, WholeForm, at}
+use Rattle.form.specs.Theorems.{RecordAllowed}
+use Rattle.form.specs.WrittenForm.{Lengths, PolicyForm, PolicyRefused, RecordForm, RecordForms, Refusal, WholeForm, at}
 
 pub number-is : {n k m j : ℕ} → at n k ≡ at m j → n ≡ m
 number-is e = cc
@@ -30,29 +30,10 @@ module _ (bytes : List ℕ) where
   abbrev pub FormAt : ℕ → List (Type 0 × ℕ)
   FormAt k = RecordForm (recordsFrom bytes 0 k) (recordAt bytes k)
 
-  abbrev labelled : ℕ → List (Type 0 × Refusal)
+  abbrev pub labelled : ℕ → List (Type 0 × Refusal)
   labelled k = relabelled (λ m. at m k) (FormAt k)
 
   -- ---- record k and those after it, n in all
-
-  from-hold : (k n : ℕ) → AllHold (RecordForms bytes k n) ↔ ((j : ℕ) → k ≤ j → j < k + n → AllHold (FormAt j))
-  unfolding RecordForms
-  from-hold k zero = (λ h j l m. absurd (omega arith), λ f. tt)
-  from-hold k (suc n) = go (from-hold (suc k) n)
-    where
-      go : AllHold (RecordForms bytes (suc k) n) ↔ ((j : ℕ) → suc k ≤ j → j < suc k + n → AllHold (FormAt j))
-          → AllHold (RecordForms bytes k (suc n)) ↔ ((j : ℕ) → k ≤ j → j < k + suc n → AllHold (FormAt j))
-      go ih = (λ h j l m. forth (both .0 h) j (eq-or-lt-of-le l) m, λ f. both .1 (here .1 (f k (omega arith) (omega arith)), ih .1 (λ j l m. f j (omega arith) (omega arith))))
-        where
-          both : AllHold (RecordForms bytes k (suc n)) ↔ (AllHold (labelled k) × AllHold (RecordForms bytes (suc k) n))
-          both = hold-append (labelled k) (RecordForms bytes (suc k) n)
-
-          here : AllHold (labelled k) ↔ AllHold (FormAt k)
-          here = hold-relabelled (λ m. at m k) (FormAt k)
-
-          forth : AllHold (labelled k) × AllHold (RecordForms bytes (suc k) n) → (j : ℕ) → (k ≡ j) ⊎ (k < j) → j < k + suc n → AllHold (FormAt j)
-          forth h j (inl e) m = subst (λ (i : ℕ). AllHold (FormAt i)) e (here .0 (h .0))
-          forth h j (inr l) m = ih .0 (h .1) j l (omega arith)
 
   -- record p is the first of them that breaks its form, and m the first number that it breaks
   pub record FirstFrom (k n m p : ℕ) : Type 0 where
@@ -149,33 +130,3 @@ module _ (bytes : List ℕ) where
           → FirstBroken (Lengths bytes) (at m p) ⊎ (AllHold (Lengths bytes) × FirstBroken (RecordForms bytes 0 (wholeRecords bytes) ++ WholeForm bytes) (at m p))
       back (inl x) = inl x
       back (inr (h, x)) = inr (h, records .1 (inl (from-broken m p 0 (wholeRecords bytes) .1 x)))
-
-  -- the written form, by its parts
-  pub written-iff : WellFormed bytes ↔ Written bytes
-  unfolding WellFormed PolicyForm
-  written-iff = (forth, back)
-    where
-      lengths : AllHold (PolicyForm bytes) ↔ (AllHold (Lengths bytes) × AllHold (RecordForms bytes 0 (wholeRecords bytes) ++ WholeForm bytes))
-      lengths = hold-append (Lengths bytes) (RecordForms bytes 0 (wholeRecords bytes) ++ WholeForm bytes)
-
-      records : AllHold (RecordForms bytes 0 (wholeRecords bytes) ++ WholeForm bytes) ↔ (AllHold all × AllHold (WholeForm bytes))
-      records = hold-append all (WholeForm bytes)
-
-      forth : AllHold (PolicyForm bytes) → Written bytes
-      forth w =
-          let h = lengths .0 w in
-          let f = from-hold 0 (wholeRecords bytes) .0 (records .0 (h .1) .0) in
-          record {
-            longest = h .0 .0;
-            whole = h .0 .1 .0;
-            records = λ k l. allowed-iff (recordsFrom bytes 0 k) (recordAt bytes k) .0 (f k (omega arith) (omega arith));
-          }
-
-      back : Written bytes → AllHold (PolicyForm bytes)
-      back w = lengths .1 (
-        (w .longest, (w .whole, tt)),
-        records .1 (
-          from-hold 0 (wholeRecords bytes) .1 (λ j _ l. allowed-iff (recordsFrom bytes 0 j) (recordAt bytes j) .1 (w .records j (omega arith))),
-          tt,
-        ),
-      )

@@ -3,7 +3,7 @@ use mathlib.Core.Path.{_≡_, ap, refl, subst, sym}
 use mathlib.Core.Logic.{_↔_, _⊎_, inl, inr}
 use mathlib.Core.List.{List, []}
 use mathlib.Core.Option.{Option, some}
-use Prim.Native.Nat.{_%_, _<_, _≤_, ℕ}
+use Prim.Native.Nat.{_<_, _≤_, ℕ}
 use lib.ListN.{length}
 use native.Mathlib.Nat.{lt-of-not-le}
 use native.Mathlib.Omega.{arith}
@@ -33,6 +33,29 @@ module _ (bytes : List ℕ) where
   -- what is refused, by a length or by a record
   abbrev Given : ℕ → ℕ → Type 0
   Given n k = FirstBroken (Lengths bytes) (at n k) ⊎ (AllHold (Lengths bytes) × FirstFrom bytes 0 (wholeRecords bytes) n k)
+
+  one-given : (k : ℕ) → PolicyRefused bytes (at 1 k) ↔ ((2304 < length bytes) × (k ≡ 128))
+  one-given k = (λ x. forth (refused-iff bytes 1 k .0 x), λ h. refused-iff bytes 1 k .1 (inl (inl (λ l. omega (arith, h .0), ap (at 1) (h .1)))))
+    where
+      forth : Given 1 k → (2304 < length bytes) × (k ≡ 128)
+      forth (inl (inl (h, e))) = (lt-of-not-le h, place-is e)
+      forth (inl (inr (_, inl (_, e)))) = absurd (omega (arith, number-is e))
+      forth (inl (inr (_, inr (_, x)))) = absurd x
+      forth (inr (_, x)) = absurd (omega (arith, record-number (recordsFrom bytes 0 k) (recordAt bytes k) 1 (x .broken)))
+
+  two-given : (k : ℕ) → PolicyRefused bytes (at 2 k) ↔ Ragged bytes k
+  two-given k = (λ x. forth (refused-iff bytes 2 k .0 x), λ x. refused-iff bytes 2 k .1 (inl (inr (x .longest, inl (x .ragged, ap (at 2) (place x))))))
+    where
+      place : Ragged bytes k → k ≡ wholeRecords bytes
+      place x = omega (arith, x .whole-ones, x .no-more)
+
+      forth : Given 2 k → Ragged bytes k
+      forth (inl (inl (_, e))) = absurd (omega (arith, number-is e))
+      forth (inl (inr (l, inl (h, e)))) =
+          let p = place-is e in
+          record { longest = l; ragged = h; whole-ones = omega (arith, p); no-more = omega (arith, p) }
+      forth (inl (inr (_, inr (_, x)))) = absurd x
+      forth (inr (_, x)) = absurd (omega (arith, record-number (recordsFrom bytes 0 k) (recordAt bytes k) 2 (x .broken)))
 
   -- the number of the statement at place i of a record's form
   record-given : (i : ℕ) → i < 4 → (n : ℕ) → ((before : List Record) (d : Record) → numberAt (RecordForm before d) i ≡ n) → (k : ℕ)
@@ -68,30 +91,6 @@ module _ (bytes : List ℕ) where
           broken = subst (FirstBroken (FormAt bytes k)) (e before d) (given .1 (x .broken));
         },
       )
-
-  one-given : (k : ℕ) → PolicyRefused bytes (at 1 k) ↔ ((2304 < length bytes) × (k ≡ 128))
-  one-given k = (λ x. forth (refused-iff bytes 1 k .0 x), λ h. refused-iff bytes 1 k .1 (inl (inl (λ l. omega (arith, h .0), ap (at 1) (h .1)))))
-    where
-      forth : Given 1 k → (2304 < length bytes) × (k ≡ 128)
-      forth (inl (inl (h, e))) = (lt-of-not-le h, place-is e)
-      forth (inl (inr (_, inl (_, e)))) = absurd (omega (arith, number-is e))
-      forth (inl (inr (_, inr (_, x)))) = absurd x
-      forth (inr (_, x)) = absurd (omega (arith, record-number (recordsFrom bytes 0 k) (recordAt bytes k) 1 (x .broken)))
-
-  two-given : (k : ℕ) → PolicyRefused bytes (at 2 k) ↔ Ragged bytes k
-  two-given k = (λ x. forth (refused-iff bytes 2 k .0 x), λ x. refused-iff bytes 2 k .1 (inl (inr (x .longest, inl (x .ragged, ap (at 2) (place x))))))
-    where
-      place : Ragged bytes k → k ≡ wholeRecords bytes
-      place x = omega (arith, x .whole-ones, x .no-more)
-
-      ragged : length bytes ≤ 2304 → (length bytes % 18 ≡ 0 → ⊥) → k ≡ wholeRecords bytes → Ragged bytes k
-      ragged l h e = record { longest = l; ragged = h; whole-ones = omega arith; no-more = omega arith }
-
-      forth : Given 2 k → Ragged bytes k
-      forth (inl (inl (_, e))) = absurd (omega (arith, number-is e))
-      forth (inl (inr (l, inl (h, e)))) = ragged l h (place-is e)
-      forth (inl (inr (_, inr (_, x)))) = absurd x
-      forth (inr (_, x)) = absurd (omega (arith, record-number (recordsFrom bytes 0 k) (recordAt bytes k) 2 (x .broken)))
 
   only-given : (n k : ℕ) → Given n k → (1 ≤ n) × (n ≤ 6)
   only-given n k (inl x) = omega (arith, length-number n k x)

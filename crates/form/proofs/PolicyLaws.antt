@@ -22,7 +22,7 @@ use Rattle.records.proofs.ReadLaws.{record-sized}
 use Rattle.records.proofs.RuleLaws.{every-rule}
 use Rattle.form.specs.Theorems.{RecordAllowed}
 use Rattle.form.specs.WrittenForm.{DisclosureBody, KindAllowed, WellFormed}
-use Rattle.form.proofs.FormLaws.{written-iff}
+use Rattle.form.proofs.WrittenLaws.{written-iff}
 
 pub most-bytes : (bytes : List ℕ) → WellFormed bytes → length bytes ≤ 2304
 most-bytes bytes w = written-iff bytes .0 w .longest

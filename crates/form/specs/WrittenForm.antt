@@ -58,7 +58,8 @@ refusalNumber (at n k) = n
 abbrev pub recordNumber : Refusal → ℕ
 recordNumber (at n k) = k
 
--- "1: more than 2,304 bytes; record number 128." "2: length not a multiple of 18; number of whole records."
+-- "1: more than 2,304 bytes; record number 128." "2: length not a multiple of 18; number of whole records." How many these are is said by bounds in
+-- `whole-records` (records' specs/Theorems), and of refusal 2 in `Ragged` (specs/Theorems).
 abbrev pub Lengths : List ℕ → List (Type 0 × Refusal)
 Lengths bytes = (length bytes ≤ 2304, at 1 128) ∷ (length bytes % 18 ≡ 0, at 2 (wholeRecords bytes)) ∷ []
 

@@ -26,7 +26,7 @@ module _ {S I O : Type 0} (next : O → S) where
   reached-any s r t [] = refl
   reached-any s r t (u ∷ ts) = reached-any s r u ts
 
-  reached-next : (s : S) (t : Turn I O) (ts : List (Turn I O)) → reached next s (last (t ∷ ts)) ≡ reached next (next (t .gives)) (last ts)
+  pub reached-next : (s : S) (t : Turn I O) (ts : List (Turn I O)) → reached next s (last (t ∷ ts)) ≡ reached next (next (t .gives)) (last ts)
   unfolding last
   reached-next s t [] = refl
   reached-next s t (u ∷ ts) = reached-any s (next (t .gives)) u ts

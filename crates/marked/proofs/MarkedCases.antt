@@ -1,19 +1,16 @@
 -- The marked cases, computed from the definitions; (b), of every shown set, by their laws. Assumes nothing.
 use mathlib.Core.Path.{_≡_, ap, refl, subst, sym}
 use mathlib.Core.Logic.{_⊎_, inl, inr}
-use mathlib.Core.Bool.{Bool, _&&_, true}
+use mathlib.Core.Bool.{true}
 use mathlib.Core.List.{List, [], _∷_}
 use mathlib.Core.Option.{orElse}
 use Prim.Native.Nat.{_<_, _^_, ℕ}
 use lib.Count.{onesIn}
-use lib.Dec.{ltb}
 use native.Mathlib.Omega.{arith}
 use Rattle.encoding.specs.LittleEndian.{Bytes, bytesOf, littleEndian}
 use Rattle.lists.specs.Each.{Each}
 use Rattle.lists.specs.Runs.{run}
-use Rattle.validation.proofs.DecideLaws.{decides-lt}
 use Rattle.validation.specs.Tests.{firstFailed, relabelled}
-use Rattle.validation.proofs.TestLaws.{and-true}
 use Rattle.atoms.specs.Sets.{Member, Subset, empty, setOf, size, union}
 use Rattle.atoms.proofs.SetLaws.{empty-subset, member-low, none-in-empty, subset-antisym, subset-true, union-cases, union-least, union-left}
 use Rattle.rules.specs.Unlocking.{Unlocks, unlocks}
@@ -39,6 +36,7 @@ use Rattle.demands.specs.Demand2.{Missing}
 use Rattle.demands.specs.Demand3.{Licensed}
 use Rattle.demands.specs.Lists.{acceptedOf, reply}
 use Rattle.demands.proofs.AnswerProof.{denied-when}
+use Rattle.demands.proofs.SeventeenProof.{byteTest, test-bytes}
 use Rattle.marked.specs.Marked.{Marked, Witness, answers, lines, policyA, policyB, turns, unlocksBy}
 
 -- everything that a case computes with
@@ -50,15 +48,6 @@ unfolding _if_not_ disclose_if_ writeRecord bytesOf setOf littleEndian readRecor
 computed = tt
 
 -- ---- the witness
-
-byteTest : List ℕ → Bool
-byteTest [] = true
-byteTest (b ∷ bs) = ltb b 256 && byteTest bs
-
-test-bytes : (bs : List ℕ) → byteTest bs ≡ true → Bytes bs
-unfolding byteTest
-test-bytes [] e = tt
-test-bytes (b ∷ bs) e = let h = and-true (ltb b 256) (byteTest bs) e in (decides-lt b 256 .0 (h .0), test-bytes bs (h .1))
 
 bytes-A : Bytes policyA
 unfolding computed byteTest

@@ -9,7 +9,7 @@ use Rattle.rules.specs.Model.{model}
 use Rattle.rules.specs.Rules.{Rule}
 use Rattle.rules.specs.Stable.{Stable}
 use Rattle.rules.proofs.LayoutLaws.{every-one-of}
-use Rattle.rules.proofs.ReductLaws.{empty-body, stable-applied}
+use Rattle.rules.proofs.BodyLaws.{empty-body, stable-applied}
 use Rattle.records.specs.Policies.{policyOf}
 use Rattle.form.specs.WrittenForm.{WellFormed}
 use Rattle.form.proofs.AnswerLaws.{gives}

@@ -39,6 +39,6 @@ demand3 policy b w r before e ms l =
       roundsOf policy (opened r) ms,
       demand3-holds policy b w r (opened r) (opened-service r v) ms l,
       ap (λ c. callsFrom (c .leaves) visits) (opens r before v) ∙ calls (opened r) visits
-          ∙ ap (map (λ (t : Turn Visit Outcome). callOf (t .gives))) (visits-mean policy (opened r) ms)
+          ∙ ap (map (λ (t : Turn Visit Outcome). callOf (t .gives))) (visits-mean .one-policy policy (opened r) ms)
           ∙ map-map _ _ (roundsOf policy (opened r) ms),
     )

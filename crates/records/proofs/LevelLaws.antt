@@ -3,14 +3,14 @@ use mathlib.Core.Path.{_≡_, ap}
 use mathlib.Core.Logic.{_⊎_, inl, inr}
 use mathlib.Core.Bool.{Bool, cond}
 use Prim.Native.Nat.{_*_, _+_, _/_, _<_, _≤_, ℕ}
-use borrow.Author.Tests.{eq-eqb, ne-eqb}
+use borrow.Author.Tests.{ne-eqb}
 use native.Mathlib.Decide.{ℕ-discrete}
 use native.Mathlib.Omega.{arith}
 use Rattle.atoms.specs.Atoms.{violation}
 use Rattle.records.specs.Levels.{level, levelCount}
 
 pub level-violation : (a : ℕ) → a ≡ violation → level a ≡ 8
-level-violation a e = ap (λ (b : Bool). cond b 8 (a / 8)) (eq-eqb a violation e)
+level-violation a e = ap level e
 
 pub level-other : (a : ℕ) → (a ≡ violation → ⊥) → level a ≡ a / 8
 level-other a n = ap (λ (b : Bool). cond b 8 (a / 8)) (ne-eqb a violation n)

@@ -1,6 +1,5 @@
 -- The laws of records, of levels, of rules and of what is written.
 pub mod ReadLaws
-pub mod CopyLaws
 pub mod LevelLaws
 pub mod RuleLaws
 pub mod WritingLaws

@@ -49,12 +49,17 @@ every-rule k bytes P =
     let r = every-record (λ d. d .kind ≡ k → P (d .rule)) bytes 0 (wholeRecords bytes) in
     (λ h j l. r .0 (i .0 h) j (omega arith) (omega arith), λ f. i .1 (r .1 (λ j _ l. f j (omega arith))))
 
+-- how many whole records there are, by bounds
+pub whole-records : (bytes : List ℕ) (k : ℕ) → (wholeRecords bytes ≡ k) ↔ ((18 * k ≤ length bytes) × (length bytes < 18 * k + 18))
+whole-records bytes k = (λ e. (omega (arith, e), omega (arith, e)), λ h. omega (arith, h .0, h .1))
+
 -- a record is there where its last byte is
 pub every-whole : (k : ℕ) (bytes : List ℕ) (P : Rule → Type 0)
     → Every P (rulesOf k bytes) ↔ ((j : ℕ) → 18 * j + 18 ≤ length bytes → recordAt bytes j .kind ≡ k → P (recordAt bytes j .rule))
 every-whole k bytes P =
     let i = every-rule k bytes P in
-    (λ h j l. i .0 h j (omega arith), λ f. i .1 (λ j l. f j (omega arith)))
+    let w = whole-records bytes (wholeRecords bytes) .0 refl in
+    (λ h j l. i .0 h j (omega (arith, w .0, w .1)), λ f. i .1 (λ j l. f j (omega (arith, w .0, w .1))))
 
 pub every-before : (bytes : List ℕ) (k : ℕ) (P : Record → Type 0) → Every P (recordsBefore bytes k) ↔ ((j : ℕ) → j < k → P (recordAt bytes j))
 every-before bytes k P = let i = every-record P bytes 0 k in (λ h j l. i .0 h j (omega arith) (omega arith), λ f. i .1 (λ j _ l. f j (omega arith)))

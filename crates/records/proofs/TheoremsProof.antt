@@ -3,7 +3,7 @@ use mathlib.Core.Path.{refl}
 use Rattle.records.specs.Theorems.{Theorems}
 use Rattle.records.proofs.LevelLaws.{level-atom, level-down}
 use Rattle.records.proofs.PutLaws.{as-long, others, written-there}
-use Rattle.records.proofs.RuleLaws.{every-before, every-whole}
+use Rattle.records.proofs.RuleLaws.{every-before, every-whole, whole-records}
 use Rattle.records.proofs.TypeLaws.{record-one}
 use Rattle.records.proofs.WritingLaws.{written}
 
@@ -12,6 +12,7 @@ theorems = record {
   levels = level-down;
   top = refl;
   atoms = level-atom;
+  whole-records = whole-records;
   written = written;
   written-there = written-there;
   others = λ bytes k j l d n. others bytes k l d j n;

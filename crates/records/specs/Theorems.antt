@@ -1,5 +1,5 @@
--- The theorems of records: levels; what is written is what is read; a policy's rules are those of all its records of that kind; what a round reads of a
--- policy. Assumes nothing.
+-- The theorems of records: levels; how many whole records there are; what is written is what is read; a policy's rules are those of all its records
+-- of that kind; what a round reads of a policy. Assumes nothing.
 use mathlib.Core.Path.{_≡_}
 use mathlib.Core.Logic.{_↔_, _≢_}
 use mathlib.Core.List.{List}
@@ -10,7 +10,7 @@ use Rattle.atoms.specs.Atoms.{violation}
 use Rattle.rules.specs.Rules.{Rule}
 use Rattle.records.specs.Levels.{level, levelCount}
 use Rattle.records.specs.Policies.{policyOf}
-use Rattle.records.specs.Records.{Record, recordAt, recordsBefore, recordsOf, rulesOf}
+use Rattle.records.specs.Records.{Record, recordAt, recordsBefore, recordsOf, rulesOf, wholeRecords}
 use Rattle.records.specs.Types.{recordOf}
 use Rattle.records.specs.Writing.{withRecord, writeRecords}
 use Rattle.records.specs.declared.Record as program
@@ -26,6 +26,8 @@ pub record Theorems : Type 1 where
   pub top : level violation ≡ 8
   -- each atom is on one of the levels below `levelCount`
   pub atoms : (a : ℕ) → a ≤ violation → level a < levelCount
+  -- "number of whole records": so many of 18 bytes each are there, and not one more
+  pub whole-records : (bytes : List ℕ) (k : ℕ) → (wholeRecords bytes ≡ k) ↔ ((18 * k ≤ length bytes) × (length bytes < 18 * k + 18))
   -- the records that are read are those that were written, in order and none else
   pub written : (ds : List Record) → Every Sized ds → recordsOf (writeRecords ds) ≡ ds
   -- record k is the one that was written there, every other one is what it was, and no byte comes or goes

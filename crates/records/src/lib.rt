@@ -8,7 +8,6 @@ ghost use Rattle.records.specs.Types.{recordOf};
 use atoms::AtomSet;
 
 pub mod level;
-pub mod write;
 
 pub const ACCESS: u8 = 1;
 

@@ -1,11 +1,12 @@
 -- The laws of passes, closures, reducts and models.
 pub mod ClosureLaws
 pub mod ReductLaws
+pub mod LayoutLaws
+pub mod MeaningLaws
+pub mod BodyLaws
 pub mod LeastLaws
 pub mod StratifiedLaws
 pub mod LevelLaws
-pub mod LayoutLaws
-pub mod MeaningLaws
 pub mod LevelByLevelLaws
 pub mod LoopLaws
 pub mod UnlockLaws

@@ -1,19 +1,19 @@
 -- What a program's loops need. A pass goes rule by rule, and only adds; it does not change what is reached, and what is reached is reached with the
 -- first pass that adds nothing. Levels are taken one by one. Assumes nothing.
-use mathlib.Core.Path.{_∙_, _≡_, ap, refl, subst, sym}
+use mathlib.Core.Path.{_∙_, _≡_, ap, ap₂, refl, subst, sym}
 use mathlib.Core.Bool.{Bool, _&&_, cond, false, true}
 use mathlib.Core.List.{List, [], _∷_}
 use Prim.Native.Nat.{_-_, _<_, _^_, ℕ}
 use native.Mathlib.Omega.{arith}
 use Rattle.lists.specs.Lists.{Every}
-use Rattle.atoms.specs.Sets.{Subset, disjoint, empty, single, size, subset, union}
+use Rattle.atoms.specs.Sets.{Member, Subset, disjoint, empty, single, size, subset, union}
+use Rattle.atoms.proofs.SetLaws.{none-in-empty, true-disjoint}
 use Rattle.atoms.proofs.SizeLaws.{size-more, size-most}
 use Rattle.rules.specs.LevelByLevel.{levelByLevel, passOver, settle}
 use Rattle.rules.specs.Model.{applies, closure, consequences, passBy}
 use Rattle.rules.specs.Rules.{Rule}
 use Rattle.rules.specs.Stable.{positiveOnly, reduct}
 use Rattle.rules.proofs.ClosureLaws.{closureBy-fixed, closureBy-pass, pass-grows}
-use Rattle.rules.proofs.ReductLaws.{reduct-positive}
 
 -- ---- one pass
 
@@ -67,6 +67,19 @@ module _ (B : ℕ) (rs : List Rule) (S N : ℕ) (pass : N ≡ passOver B rs S) w
   pub pass-idle : reached B rs S ≡ reached B rs B → N ≡ S → S ≡ settle rs B
   unfolding passOver reached settle consequences
   pass-idle e n = sym (sym e ∙ closureBy-fixed applies (reduct B rs) S (sym pass ∙ n))
+
+-- of rules without negation nothing is struck or dropped
+reduct-positive : (M : ℕ) (rs : List Rule) → Every (λ r. r .negated ≡ empty) rs → reduct M rs ≡ rs
+unfolding reduct
+reduct-positive M [] h = refl
+reduct-positive M (r ∷ rs) h =
+    rw unstruck (ap₂ (λ (q : Rule) (qs : List Rule). q ∷ qs) same (reduct-positive M rs (h .1)))
+  where
+    unstruck : disjoint (r .negated) M ≡ true
+    unstruck = true-disjoint (r .negated) M (λ k m _. none-in-empty k (subst (Member k) (h .0) m))
+
+    same : positiveOnly r ≡ r
+    same = λ i. record { head = r .head; positive = r .positive; negated = sym (h .0) i }
 
 -- of rules without negation the closure is reached
 pub settle-positive : (rs : List Rule) → Every (λ r. r .negated ≡ empty) rs → (S : ℕ) → settle rs S ≡ closure rs S

@@ -1,14 +1,15 @@
 -- The theorems of specs/Theorems. Assumes nothing.
 use Rattle.rules.specs.Model.{applies}
 use Rattle.rules.specs.Theorems.{Theorems}
+use Rattle.rules.proofs.BodyLaws.{empty-body, stable-applied, two-sided}
 use Rattle.rules.proofs.ClosureLaws.{closureBy-fixed, closureBy-pass, pass-grows}
 use Rattle.rules.proofs.LayoutLaws.{one-of-level}
 use Rattle.rules.proofs.LeastLaws.{closure-least, idle-closed}
 use Rattle.rules.proofs.LevelByLevelLaws.{level-by-level}
 use Rattle.rules.proofs.LevelLaws.{one-stable-any}
 use Rattle.rules.proofs.MeaningLaws.{closed-means, same-stable, stable-means}
-use Rattle.rules.proofs.ReductLaws.{empty-body, reduct-every, stable-applied, two-sided}
-use Rattle.rules.proofs.UnlockLaws.{grants-means, unlocks-iff}
+use Rattle.rules.proofs.ReductLaws.{reduct-every}
+use Rattle.rules.proofs.UnlockLaws.{equivalent, grants-means, unlocks-iff}
 
 pub theorems : Theorems
 theorems = record {
@@ -17,6 +18,7 @@ theorems = record {
   stable-means = stable-means;
   applied = stable-applied;
   two-sided = two-sided;
+  never-applies = equivalent;
   empty-body = empty-body;
   closures = closure-least;
   models = one-stable-any;

@@ -2,16 +2,20 @@
 use mathlib.Core.Path.{_≡_, subst}
 use mathlib.Core.Logic.{_↔_}
 use mathlib.Core.Bool.{not, true}
+use mathlib.Core.List.{List, _++_, _∷_}
 use Prim.Native.Nat.{ℕ}
+use Rattle.lists.proofs.ListLaws.{every-one-of, one-of-every}
 use Rattle.lists.specs.Lists.{Every}
 use Rattle.validation.proofs.DecideLaws.{decides-and, decides-eq, decides-not}
 use Rattle.atoms.specs.Atoms.{violation}
 use Rattle.atoms.specs.Sets.{Member, bit, member}
 use Rattle.rules.specs.Model.{model}
 use Rattle.rules.specs.Policy.{Policy}
-use Rattle.rules.specs.Rules.{Stratified}
-use Rattle.rules.specs.Stable.{OneStable}
+use Rattle.rules.specs.Rules.{Rule, Stratified}
+use Rattle.rules.specs.Stable.{OneStable, Stable}
+use Rattle.rules.specs.Theorems.{Equivalent}
 use Rattle.rules.specs.Unlocking.{Unlocks, grants, unlocks}
+use Rattle.rules.proofs.BodyLaws.{never-applies, one-more}
 use Rattle.rules.proofs.LevelLaws.{one-stable-any}
 
 pub grants-means : (r M : ℕ) → (grants r M ≡ true) ↔ (Member r M × (Member violation M → ⊥))
@@ -31,3 +35,21 @@ unlocks-iff lev pol s r C = (
 
     one : OneStable (pol .access) C (model (pol .access) C)
     one = one-stable-any lev (pol .access) s C
+
+-- with a rule that has an atom on both sides and without it
+pub equivalent : (qs rs : List Rule) (r : Rule) (k : ℕ) → Member k (r .positive) → Member k (r .negated) → Equivalent (qs ++ (r ∷ rs)) (qs ++ rs)
+equivalent qs rs r k p n = record {
+  stable-sets = same;
+  unlocked = λ ds s C. (
+    λ u. record { stable-set = u .stable-set; stable = same C (u .stable-set) .0 (u .stable); service = u .service; no-violation = u .no-violation },
+    λ u. record { stable-set = u .stable-set; stable = same C (u .stable-set) .1 (u .stable); service = u .service; no-violation = u .no-violation },
+  );
+  models = λ lev a C.
+      let all = every-one-of (Stratified lev) (qs ++ (r ∷ rs)) a in
+      let left = one-of-every (Stratified lev) (qs ++ rs) (λ t i. all t (one-more qs rs r t i)) in
+      let M = model (qs ++ (r ∷ rs)) C in
+      one-stable-any lev (qs ++ rs) left C .only M (same C M .0 (one-stable-any lev (qs ++ (r ∷ rs)) a C .stable));
+}
+  where
+    same : (C M : ℕ) → Stable (qs ++ (r ∷ rs)) C M ↔ Stable (qs ++ rs) C M
+    same = never-applies qs rs r k p n

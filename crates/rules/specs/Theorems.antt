@@ -2,7 +2,7 @@
 use mathlib.Core.Path.{_≡_}
 use mathlib.Core.Logic.{_↔_}
 use mathlib.Core.Bool.{true}
-use mathlib.Core.List.{List}
+use mathlib.Core.List.{List, _++_, _∷_}
 use Prim.Native.Nat.{_<_, ℕ}
 use Rattle.lists.specs.Lists.{Every, OneOf}
 use Rattle.atoms.specs.Sets.{Member, Subset, empty}
@@ -23,6 +23,14 @@ pub record ClosedBeside (rs : List Rule) (C M X : ℕ) : Type 0 where
   pub holds : Subset C X
   pub heads : (r : Rule) → OneOf r rs → Subset (r .positive) X → ((k : ℕ) → Member k (r .negated) → Member k M → ⊥) → Member (r .head) X
 
+-- Access rules ps and qs give the same beside every C, which the field calls uniformly equivalent: the same sets are stable, the same is unlocked,
+-- and the model is the same where ps keep levels.
+pub record Equivalent (ps qs : List Rule) : Type 0 where
+  pub stable-sets : (C M : ℕ) → Stable ps C M ↔ Stable qs C M
+  pub unlocked : (ds : List Rule) (s C : ℕ)
+      → Unlocks (record { access = ps; disclosure = ds }) s C ↔ Unlocks (record { access = qs; disclosure = ds }) s C
+  pub models : (lev : ℕ → ℕ) → Every (Stratified lev) ps → (C : ℕ) → model ps C ≡ model qs C
+
 pub record Theorems : Type 1 where
   -- "strike each rule that negates an atom of M, then drop the negated parts of the others": what remains is this and nothing else
   pub reducts : (M : ℕ) (rs : List Rule) (P : Rule → Type 0)
@@ -37,6 +45,9 @@ pub record Theorems : Type 1 where
   pub applied : (rs : List Rule) (C M : ℕ) → Stable rs C M → Every (λ r. BodyHolds M r → Member (r .head) M) rs
   -- "An atom may stand on both sides of a body; that rule never applies."
   pub two-sided : (r : Rule) (k : ℕ) → Member k (r .positive) → Member k (r .negated) → (M : ℕ) → BodyHolds M r → ⊥
+  -- so that with it and without it the same is stable, unlocked and, where levels are kept, in the model
+  pub never-applies : (qs rs : List Rule) (r : Rule) (k : ℕ) → Member k (r .positive) → Member k (r .negated)
+      → Equivalent (qs ++ (r ∷ rs)) (qs ++ rs)
   -- "An empty body always applies."
   pub empty-body : (r : Rule) → r .positive ≡ empty → r .negated ≡ empty → (M : ℕ) → BodyHolds M r
   -- "the least set that holds P and is closed under" rules without negation

@@ -1,4 +1,5 @@
 -- What the program's steps and types come to.
 pub mod ProgramLaws
+pub mod FitLaws
 pub mod TypeLaws
 pub mod TheoremsProof

@@ -4,6 +4,7 @@ ghost use Rattle.records.specs.Policies.{policyOf};
 ghost use Rattle.form.specs.WrittenForm.{WellFormed};
 ghost use Rattle.rounds.specs.RoundTest.{sessionRefusal};
 ghost use Rattle.rounds.specs.Rounds.{opening, respond, round, turnedBack};
+ghost use Rattle.demands.specs.Promises.{OpeningMeets, RoundMeets};
 ghost use Rattle.session.specs.Types.{moveOf, openedOf, outcomeOf, refusalOf, sessionOf};
 use accepted::accepted_round;
 use answer::Answer;
@@ -65,7 +66,8 @@ pub enum Opened {
 impl Session {
     // A fresh session for a request.
     pub fn open(request: u16) -> Opened
-        ensures { λ r. ⌜ openedOf r ≡ opening request ⌝ }
+        ensures answer { λ r. ⌜ openedOf r ≡ opening request ⌝ }
+        ensures meaning { λ r. ⌜ OpeningMeets request (openedOf r) ⌝ }
     {
         if !is_service(request) {
             return Opened::Refused(Refusal::Request);
@@ -82,6 +84,7 @@ impl Session {
     // A round: its answer and the next session, which is this one where the round is refused.
     pub fn round(self, policy: &[u8], taken: Move) -> Outcome
         ensures answer { λ r. ⌜ outcomeOf r ≡ round (now (policy .entry)) (sessionOf self) (moveOf taken) ⌝ }
+        ensures meaning { λ r. ⌜ RoundMeets (now (policy .entry)) (sessionOf self) (moveOf taken) (outcomeOf r) ⌝ }
         ensures unchanged { λ _. ⌜ now (policy .exit) ≡ now (policy .entry) ⌝ }
     {
         let checked = check(policy);

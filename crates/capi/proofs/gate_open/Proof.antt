@@ -22,11 +22,11 @@ of-refusal-requires c κs = search needs
 
 returns : tie.Need-returns
 unfolding openCall
-returns c = rw (← c .before .before .before .before .«open» .ensures, c .before .before .fresh .given .1) (refl, c .pack .ensures)
+returns c = rw (← c .before .before .before .before .«open» .ensures .0, c .before .before .fresh .given .1) (refl, c .pack .ensures)
 
 returns-2 : tie.Need-returns-2
 unfolding openCall
-returns-2 c = rw (← c .before .before .before .before .«open» .ensures, c .before .before .refusal .given .1) (c .of-refusal .ensures, refl)
+returns-2 c = rw (← c .before .before .before .before .«open» .ensures .0, c .before .before .refusal .given .1) (c .of-refusal .ensures, refl)
 
 pub gate-open-spec : {M : Type 1} → statement M
 gate-open-spec =

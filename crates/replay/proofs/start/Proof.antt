@@ -16,10 +16,10 @@ enum-known-opened-2 : tie.Need-enum-known-opened-2
 enum-known-opened-2 c = search needs
 
 returns : tie.Need-returns
-returns c = ap begun (sym (ap openedOf (c .before .opened .given .1)) ∙ c .before .before .before .«open» .ensures)
+returns c = ap begun (sym (ap openedOf (c .before .opened .given .1)) ∙ c .before .before .before .«open» .ensures .0)
 
 returns-2 : tie.Need-returns-2
-returns-2 c = ap begun (sym (ap openedOf (c .before .opened2 .given .1)) ∙ c .before .before .before .«open» .ensures)
+returns-2 c = ap begun (sym (ap openedOf (c .before .opened2 .given .1)) ∙ c .before .before .before .«open» .ensures .0)
 
 pub start-spec : {M : Type 1} → statement M
 start-spec =

@@ -1,7 +1,8 @@
 -- `evaluation::closure::pass` meets its contract. The loop's invariant: what is left of the rules makes of the set what all of them make of the first
 -- one. Assumes nothing.
 use mathlib.Core.Path.{_≡_, refl}
-use Prim.Native.Nat.{_-_}
+use mathlib.Core.List.{List}
+use Prim.Native.Nat.{_-_, _≤_, ℕ}
 use denote.Ref.{now}
 use borrow.Author.Needs.{needs}
 use native.Mathlib.Omega.{arith}
@@ -11,16 +12,20 @@ use Rattle.arrays.proofs.ArrayLaws.{pass-done-at, pass-next-at}
 use Rattle.evaluation.proofs.closure.pass.Statement.{statement}
 use Rattle.evaluation.proofs.closure.pass.Tie as tie
 
+-- k is the place of the next rule, S the set so far
+record Passing (heads positive negated : List ℕ) (from to B S₀ S k : ℕ) : Type 0 where
+  pub begun : from ≤ k
+  pub left : passOver B (rulesIn heads positive negated k (to - k)) S ≡ passOver B (rulesIn heads positive negated from (to - from)) S₀
+
 abbrev Inv-loop : tie.InvT-loop
 Inv-loop heads positive negated from to below reached₀ k₀ reached k =
-    passOver (below .bits) (rulesIn heads positive negated k (to - k)) (reached .bits)
-    ≡ passOver (below .bits) (rulesIn heads positive negated from (to - from)) (reached₀ .bits)
+    Passing heads positive negated from to (below .bits) (reached₀ .bits) (reached .bits) k
 
 abbrev μ-loop : tie.MeasureT-loop
 μ-loop heads positive negated from to below reached₀ k₀ reached k = to - k
 
 loop-holds : tie.Need-loop-holds Inv-loop μ-loop
-loop-holds c = refl
+loop-holds c = record { begun = omega arith; left = refl }
 
 mul-all : tie.Need-mul-all Inv-loop μ-loop
 mul-all c = search needs
@@ -48,15 +53,19 @@ loop-again c =
     let a = c .before .before .before .before .before .args in
     let l = c .before .before .before .before .loop in
     let head = c .before .before .before .before .before .pre .singles (l .k) (omega arith) in
-    pass-next-at (now (a .heads)) (now (a .positive)) (now (a .negated)) (l .k) (a .to) (c .before .before .before .loop-test .taken) head
-    (a .below .bits) (l .reached .bits) (c .fire .result .bits) _ (c .fire .ensures) (l .inv)
+    record {
+      begun = omega (arith, l .inv .begun);
+      left =
+          pass-next-at (now (a .heads)) (now (a .positive)) (now (a .negated)) (l .k) (a .to) (c .before .before .before .loop-test .taken) head
+          (a .below .bits) (l .reached .bits) (c .fire .result .bits) _ (c .fire .ensures) (l .inv .left);
+    }
 
 returns : tie.Need-returns Inv-loop μ-loop
 returns c =
     let a = c .before .before .args in
     let l = c .before .loop in
     pass-done-at (now (a .heads)) (now (a .positive)) (now (a .negated)) (l .k) (a .to) (c .loop-test .left)
-    (a .below .bits) (l .reached .bits) _ (l .inv)
+    (a .below .bits) (l .reached .bits) _ (l .inv .left)
 
 pub pass-spec : {M : Type 1} → statement M
 pass-spec =

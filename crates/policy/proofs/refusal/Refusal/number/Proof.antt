@@ -1,4 +1,5 @@
 -- `policy::refusal::Refusal::number` meets its contract: each case has its number. Assumes nothing.
+use mathlib.Core.Path.{refl}
 use Rattle.policy.proofs.refusal.Refusal.number.Statement.{statement}
 use Rattle.policy.proofs.refusal.Refusal.number.Tie as tie
 
@@ -21,22 +22,22 @@ enum-told-6 : tie.Need-enum-told-6
 enum-told-6 c = c .match .keys6
 
 returns : tie.Need-returns
-returns c = cc
+returns c = rw (c .enum-told .given .1) refl
 
 returns-2 : tie.Need-returns-2
-returns-2 c = cc
+returns-2 c = rw (c .enum-told2 .given .1) refl
 
 returns-3 : tie.Need-returns-3
-returns-3 c = cc
+returns-3 c = rw (c .enum-told3 .given .1) refl
 
 returns-4 : tie.Need-returns-4
-returns-4 c = cc
+returns-4 c = rw (c .enum-told4 .given .1) refl
 
 returns-5 : tie.Need-returns-5
-returns-5 c = cc
+returns-5 c = rw (c .enum-told5 .given .1) refl
 
 returns-6 : tie.Need-returns-6
-returns-6 c = cc
+returns-6 c = rw (c .enum-told6 .given .1) refl
 
 pub number-spec : {M : Type 1} → statement M
 number-spec =

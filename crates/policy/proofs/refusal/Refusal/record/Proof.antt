@@ -1,4 +1,5 @@
 -- `policy::refusal::Refusal::record` meets its contract: each case has its record number. Assumes nothing.
+use mathlib.Core.Path.{refl}
 use Rattle.policy.proofs.refusal.Refusal.record.Statement.{statement}
 use Rattle.policy.proofs.refusal.Refusal.record.Tie as tie
 
@@ -21,7 +22,7 @@ enum-known-self-5 : tie.Need-enum-known-self-5
 enum-known-self-5 c = c .match .keys6
 
 returns : tie.Need-returns
-returns c = cc
+returns c = rw (c .enum-told .given .1) refl
 
 returns-2 : tie.Need-returns-2
 returns-2 c = cc

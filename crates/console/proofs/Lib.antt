@@ -1,0 +1,3 @@
+-- The laws of lines and calls, and the theorems.
+pub mod CallsProof
+pub mod TheoremsProof

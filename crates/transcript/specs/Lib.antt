@@ -1,0 +1,7 @@
+-- What the bench program prints, in the order of reading.
+pub mod Numerals
+pub mod NumeralTheorems
+pub mod Lines
+pub mod Output
+pub mod Steps
+pub mod Theorems

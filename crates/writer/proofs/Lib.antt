@@ -1,0 +1,2 @@
+-- The laws of copying.
+pub mod CopyLaws

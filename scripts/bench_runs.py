@@ -1,0 +1,244 @@
+#!/usr/bin/env python3
+"""Runs the bench program many times, each time in a folder of its own, and compares all that it prints.
+
+    scripts/bench_runs.py [PROGRAM]     default: target/bin/bench, which `rt check bench` makes
+
+The runs and what they have to print are bench_sessions.py's. Some are given in pieces, split at every place; in some a line has to come
+before the next record is given; in some nothing can be printed, and the program has only to end. Exit statuses are not compared.
+"""
+import fcntl
+import itertools
+import os
+import pathlib
+import select
+import shutil
+import struct
+import subprocess
+import sys
+import tempfile
+import termios
+import time
+
+import bench_sessions
+from stored import ROOT
+
+SECONDS = 10
+NOBODY = 65534
+
+
+def placed(folder, policy):
+    """The folder, with its policy.bin."""
+    folder.mkdir()
+    path = folder / "policy.bin"
+    if callable(policy):
+        policy(path)
+    elif policy is not None:
+        path.write_bytes(policy)
+    return folder
+
+
+def started(program, folder, **how):
+    """The program; not as root, who can read every file."""
+    user = {"user": NOBODY, "group": NOBODY, "extra_groups": []} if os.geteuid() == 0 else {}
+    pipes = {"stdin": subprocess.PIPE, "stdout": subprocess.PIPE, "stderr": subprocess.STDOUT, "bufsize": 0}
+    return subprocess.Popen([program], cwd=folder, **{**pipes, **user, **how})
+
+
+def unread(pipe):
+    """How many bytes in a pipe are still to be read."""
+    return struct.unpack("i", fcntl.ioctl(pipe, termios.FIONREAD, bytes(4)))[0]
+
+
+def give(process, piece):
+    """Writes a piece and waits until the program has taken it, or has ended."""
+    try:
+        process.stdin.write(piece)
+    except BrokenPipeError:
+        return
+    end = time.monotonic() + SECONDS
+    while unread(process.stdin) and process.poll() is None and time.monotonic() < end:
+        time.sleep(0.0002)
+
+
+def line(process):
+    """The next line of output, or what came of it in time."""
+    got, end = b"", time.monotonic() + SECONDS
+    while not got.endswith(b"\n") and select.select([process.stdout], [], [], max(0, end - time.monotonic()))[0]:
+        byte = process.stdout.read(1)
+        if not byte:
+            break
+        got += byte
+    return got
+
+
+def ended(process):
+    """Ends the input, and says what is still printed; None if the program does not end."""
+    if process.stdin:
+        process.stdin.close()
+        process.stdin = None
+    try:
+        return process.communicate(timeout=SECONDS)[0] or b""
+    except subprocess.TimeoutExpired:
+        process.kill()
+        process.communicate()
+        return None
+
+
+def at_once(program, folder, run):
+    """The input is a file."""
+    (folder / "input").write_bytes(run.input)
+    with open(folder / "input", "rb") as source:
+        return ended(started(program, folder, stdin=source))
+
+
+def in_pieces(*pieces):
+    def way(program, folder, run):
+        process = started(program, folder)
+        for piece in pieces:
+            give(process, piece)
+        return ended(process)
+
+    return way
+
+
+def line_by_line(program, folder, run):
+    """A record is given only when the line of the one before is there."""
+    process = started(program, folder)
+    printed, missing = b"", run.printed.encode().splitlines(keepends=True)
+    records = [run.input[at : at + 2] for at in range(0, len(run.input), 2)]
+    # The request's line is that of a refusal; else it has none, and each round has one.
+    opened = run.printed.startswith("round")
+    for place, record in enumerate(records):
+        give(process, record)
+        if missing and (place > 0 or not opened):
+            got = line(process)
+            printed += got
+            if got != missing.pop(0):
+                return printed + b"in time; then " + (ended(process) or b"")
+    rest = ended(process)
+    return None if rest is None else printed + rest
+
+
+def left_open(program, folder, run):
+    """The program has to end by itself: there is no end of input."""
+    process = started(program, folder)
+    give(process, run.input)
+    try:
+        process.wait(timeout=SECONDS)
+    except subprocess.TimeoutExpired:
+        process.kill()
+        process.communicate()
+        return None
+    return ended(process)
+
+
+def closed_input(program, folder, run):
+    return ended(started(program, folder, stdin=None, preexec_fn=lambda: os.close(0)))
+
+
+def folder_as_input(program, folder, run):
+    source = os.open(folder, os.O_RDONLY)
+    try:
+        return ended(started(program, folder, stdin=source))
+    finally:
+        os.close(source)
+
+
+def full(program, folder, run):
+    with open("/dev/full", "wb") as output:
+        return only_ends(started(program, folder, stdout=output), run)
+
+
+def closed(program, folder, run):
+    return only_ends(started(program, folder, stdout=None, preexec_fn=lambda: os.close(1)), run)
+
+
+def not_read(restore_signals):
+    def way(program, folder, run):
+        process = started(program, folder, restore_signals=restore_signals)
+        process.stdout.close()
+        process.stdout = None
+        return only_ends(process, run)
+
+    return way
+
+
+def only_ends(process, run):
+    """What the run has to print, if the program ends."""
+    give(process, run.input)
+    return None if ended(process) is None else run.printed.encode()
+
+
+def split_runs(runs):
+    """In two pieces, split at each place."""
+    odd = "odd byte ff after closing", "odd byte ff after a refused request"
+    for name in ("(a) the three rounds", "(f) 17 if not 24", "(j) policy B", "ties", *odd):
+        run = runs[name]
+        for at in range(1, len(run.input)):
+            yield f"{name}, split at {at}", run, in_pieces(run.input[:at], run.input[at:])
+
+
+def trickled_runs(runs):
+    """A byte at a time, and in pieces that end at odd places."""
+    chosen = [name for name in runs if name.startswith(("(", "odd byte ff", "one byte ff"))]
+    for name in (*chosen, "ties", "17 rounds, all declined", "request 272, three records after it", "3 at record 0, 35 bytes"):
+        run = runs[name]
+        yield f"{name}, a byte at a time", run, in_pieces(*(bytes([byte]) for byte in run.input))
+        odd = [run.input[:1], *(run.input[at : at + 2] for at in range(1, len(run.input), 2))]
+        yield f"{name}, at every odd place", run, in_pieces(*odd)
+
+
+def answered_runs(runs):
+    """Each line before the next record."""
+    chosen = [name for name in runs if name.startswith(("(", "twenty", "17 rounds", "random policy 1"))]
+    for name in (*chosen, "ties", "2305 bytes", "request 272, three records after it", "request 15, policy refused too"):
+        yield f"{name}, line by line", runs[name], line_by_line
+
+
+def unprinted_runs(runs):
+    """Output that fails."""
+    ways = {"full": full, "closed": closed, "not read": not_read(True), "not read, no signal": not_read(False)}
+    names = "(a) the three rounds", "(f) 17 if not 24", "request 15 alone", "twenty records after deny", "3000 records after deny"
+    for name, word in itertools.product(names, ways):
+        yield f"{name}, output {word}", runs[name], ways[word]
+
+
+def unread_runs(runs):
+    """Input that fails, and input that is left once the output has ended."""
+    for word, way in (("closed", closed_input), ("a folder", folder_as_input)):
+        yield f"no input, policy good, input {word}", runs["no input, policy good"], way
+    for name in ("(f) 17 if not 24", "2305 bytes", "request 15 alone", "request 272, three records after it"):
+        yield f"{name}, input left open", runs[name], left_open
+
+
+def all_runs():
+    runs = {run.name: run for run in bench_sessions.runs()}
+    for name, run in runs.items():
+        yield name, run, at_once
+    for some in (split_runs, trickled_runs, answered_runs, unprinted_runs, unread_runs):
+        yield from some(runs)
+
+
+def passes(name, run, got):
+    if got == run.printed.encode():
+        return True
+    said = "does not end" if got is None else f"prints {got.decode(errors='replace')!r}, not {run.printed!r}"
+    print(f"failed: {name}: {said if len(said) < 400 else said[:400] + '..'}")
+    return False
+
+
+def main():
+    counts = {True: 0, False: 0}
+    os.umask(0o022)
+    with tempfile.TemporaryDirectory() as space:
+        top = pathlib.Path(space)
+        top.chmod(0o755)
+        program = shutil.copy(sys.argv[1] if len(sys.argv) > 1 else ROOT / "target/bin/bench", top / "bench")
+        pathlib.Path(program).chmod(0o755)
+        for place, (name, run, way) in enumerate(all_runs()):
+            counts[passes(name, run, way(program, placed(top / str(place), run.policy), run))] += 1
+    print(f"{counts[True]} passed, {counts[False]} failed")
+    return 1 if counts[False] else 0
+
+
+sys.exit(main())
