@@ -2,8 +2,9 @@
  * needs only memcpy and memset.
  *
  * Each function's reply, and what it leaves in the memory that it is lent, is proved for every input (contracts in
- * crates/capi/src/lib.rt, theorems in crates/packing/specs/Theorems.antt): it returns, never traps, and reads and writes
- * nothing else. A policy is never written. No function allocates, keeps a pointer or has a state of its own.
+ * crates/capi/src/lib.rt, theorems in crates/packing/specs/Theorems.antt and crates/session_logs/specs/Theorems.antt): it
+ * returns, never traps, and reads and writes nothing else. A policy is never written. No function allocates, keeps a pointer
+ * or has a state of its own.
  *
  * For a watchdog: a round tries at most 65,535 sets of credentials, and no other function tries any. The deepest stack
  * below the caller was measured as 16,128 bytes in a round, 6,688 for the model and less for the others (docs/PERFORMANCE.md).
@@ -52,14 +53,17 @@ enum { GATE_FRESH = 0, GATE_WAITING = 1, GATE_GRANTED = 2, GATE_DENIED = 3 };
 /* A reply is a number. Bytes that are not named here are 0.
  *
  *   0                   nothing is refused, and there is no more to say; never of a round
- *   byte 0 is not 0     refused with that number, 1 to 9; with 1 to 6 byte 1 is the number of the policy's record
+ *   byte 0 is not 0     refused with that number, 1 to 11; with 1 to 6 byte 1 is the number of the policy's record
  *   byte 0 is 0         a round, not refused: byte 1 is 1 for grant, 2 for deny, 3 for a question; the set asked for is
- *                       GATE_ASKED of the session that the round leaves */
+ *                       GATE_ASKED of the session that the round leaves
+ *                       two logs that part: byte 1 is 4
+ *
+ * Every function but gate_log_record gives a reply; that one gives a number of bytes. */
 #define GATE_REFUSAL(reply) ((uint32_t)(reply) & 0xff)
 #define GATE_RECORD(reply) ((uint32_t)(reply) >> 8 & 0xff) /* of a refusal, 1 to 6 */
-#define GATE_ENDING(reply) ((uint32_t)(reply) >> 8 & 0xff) /* of a round that is not refused */
+#define GATE_ENDING(reply) ((uint32_t)(reply) >> 8 & 0xff) /* of a round or a comparison that is not refused */
 
-enum { GATE_GRANT = 1, GATE_DENY = 2, GATE_ASK = 3 };
+enum { GATE_GRANT = 1, GATE_DENY = 2, GATE_ASK = 3, GATE_PART = 4 };
 
 /* The policy's test: 0 exactly where the policy is of the written form, else its refusal, 1 to 6. */
 uint32_t gate_check(const uint8_t *policy, size_t length);
@@ -80,6 +84,29 @@ uint32_t gate_open(uint16_t request, gate_session *session);
  * 3, or something asked for in a session that is not waiting); 7 for its request; 8 where it is not sound; 9 where it is
  * closed. */
 uint32_t gate_round(const uint8_t *policy, size_t length, gate_session *session, uint16_t shown);
+
+/* A log (document 02, R-1) is records of eight bytes, one for each round that was not refused, and nothing else:
+ *
+ *   0, 1   the set shown in that round    5      count of rounds
+ *   2      1 grant, 2 deny, 3 ask         6, 7   0
+ *   3, 4   the set asked for, or 0 */
+typedef struct {
+    uint8_t bytes[8];
+} gate_record;
+
+/* The log record of a round, from what was shown, what gate_round replied, and the session that it left. What comes back is no
+ * reply but the number of bytes to append to a log: 8, and the record in *record, where the round was not refused; else 0, and
+ * *record as it was. Where the three are not of one round there is no record, or one that belongs to no round, which
+ * gate_compare_logs does not refuse. */
+size_t gate_log_record(uint16_t shown, uint32_t reply, const gate_session *session, gate_record *record);
+
+/* Two logs held against each other, record by record: they agree at a record if answer and asked set are equal. 0 where they
+ * agree throughout; or 0x400 (byte 1 is GATE_PART), and in *place the first record, from 0, where they part, be it that one of
+ * them ends there; or a refusal. Where they do not part *place is as it was. Refused are 10, a length that is not a multiple
+ * of 8, and 11, a record with another answer than 1 to 3, bytes 6 and 7 not 0, nothing asked for with 3, or something without.
+ * The first log is tested first, by 10 and then by 11. The two may be the same memory. The time is linear in their lengths. */
+uint32_t gate_compare_logs(
+    const uint8_t *first, size_t first_length, const uint8_t *second, size_t second_length, size_t *place);
 
 #ifdef __cplusplus
 }

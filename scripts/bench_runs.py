@@ -6,82 +6,15 @@
 The runs and what they have to print are bench_sessions.py's. Some are given in pieces, split at every place; in some a line has to come
 before the next record is given; in some nothing can be printed, and the program has only to end. Exit statuses are not compared.
 """
-import fcntl
 import itertools
 import os
 import pathlib
-import select
-import shutil
-import struct
-import subprocess
 import sys
 import tempfile
-import termios
-import time
 
 import bench_sessions
+from processes import copied, ended, ended_by_itself, give, next_output, placed, started
 from stored import ROOT
-
-SECONDS = 10
-NOBODY = 65534
-
-
-def placed(folder, policy):
-    """The folder, with its policy.bin."""
-    folder.mkdir()
-    path = folder / "policy.bin"
-    if callable(policy):
-        policy(path)
-    elif policy is not None:
-        path.write_bytes(policy)
-    return folder
-
-
-def started(program, folder, **how):
-    """The program; not as root, who can read every file."""
-    user = {"user": NOBODY, "group": NOBODY, "extra_groups": []} if os.geteuid() == 0 else {}
-    pipes = {"stdin": subprocess.PIPE, "stdout": subprocess.PIPE, "stderr": subprocess.STDOUT, "bufsize": 0}
-    return subprocess.Popen([program], cwd=folder, **{**pipes, **user, **how})
-
-
-def unread(pipe):
-    """How many bytes in a pipe are still to be read."""
-    return struct.unpack("i", fcntl.ioctl(pipe, termios.FIONREAD, bytes(4)))[0]
-
-
-def give(process, piece):
-    """Writes a piece and waits until the program has taken it, or has ended."""
-    try:
-        process.stdin.write(piece)
-    except BrokenPipeError:
-        return
-    end = time.monotonic() + SECONDS
-    while unread(process.stdin) and process.poll() is None and time.monotonic() < end:
-        time.sleep(0.0002)
-
-
-def line(process):
-    """The next line of output, or what came of it in time."""
-    got, end = b"", time.monotonic() + SECONDS
-    while not got.endswith(b"\n") and select.select([process.stdout], [], [], max(0, end - time.monotonic()))[0]:
-        byte = process.stdout.read(1)
-        if not byte:
-            break
-        got += byte
-    return got
-
-
-def ended(process):
-    """Ends the input, and says what is still printed; None if the program does not end."""
-    if process.stdin:
-        process.stdin.close()
-        process.stdin = None
-    try:
-        return process.communicate(timeout=SECONDS)[0] or b""
-    except subprocess.TimeoutExpired:
-        process.kill()
-        process.communicate()
-        return None
 
 
 def at_once(program, folder, run):
@@ -111,7 +44,7 @@ def line_by_line(program, folder, run):
     for place, record in enumerate(records):
         give(process, record)
         if missing and (place > 0 or not opened):
-            got = line(process)
+            got = next_output(process, lambda some: some.endswith(b"\n"))
             printed += got
             if got != missing.pop(0):
                 return printed + b"in time; then " + (ended(process) or b"")
@@ -123,13 +56,8 @@ def left_open(program, folder, run):
     """The program has to end by itself: there is no end of input."""
     process = started(program, folder)
     give(process, run.input)
-    try:
-        process.wait(timeout=SECONDS)
-    except subprocess.TimeoutExpired:
-        process.kill()
-        process.communicate()
-        return None
-    return ended(process)
+    both = ended_by_itself(process)
+    return None if both is None else both[0]
 
 
 def closed_input(program, folder, run):
@@ -232,9 +160,7 @@ def main():
     os.umask(0o022)
     with tempfile.TemporaryDirectory() as space:
         top = pathlib.Path(space)
-        top.chmod(0o755)
-        program = shutil.copy(sys.argv[1] if len(sys.argv) > 1 else ROOT / "target/bin/bench", top / "bench")
-        pathlib.Path(program).chmod(0o755)
+        program = copied(sys.argv[1] if len(sys.argv) > 1 else ROOT / "target/bin/bench", top)
         for place, (name, run, way) in enumerate(all_runs()):
             counts[passes(name, run, way(program, placed(top / str(place), run.policy), run))] += 1
     print(f"{counts[True]} passed, {counts[False]} failed")

@@ -1,5 +1,5 @@
 #!/usr/bin/env python3
-"""Checks docs/SPECIFICATION.md, where document 01 is ticked off sentence by sentence, and what is quoted from the papers.
+"""Checks docs/SPECIFICATION.md, where documents 01 and 02 are ticked off sentence by sentence, and what is quoted from the papers.
 
     scripts/specification.py                 every file and name in backticks on the page is there
     scripts/specification.py --papers DIR    and all that is quoted stands in the papers, the .md and .txt files in DIR
@@ -8,7 +8,8 @@ What stands in backticks is a file if it has a slash, and else a name, which has
 table or the same line of text. Comments do not count. Files are in crates, or else in the repository's root.
 
 With the papers, headings and first columns from document 01's title on have to be the text of 01-scope.md, whole, in order and
-nothing more, and first columns before it the three demands of 00-customers-letter.md. What stands in quotation marks, on the page,
+nothing more, and first columns before it the three demands of 00-customers-letter.md; from document 02's title on, the text of
+02-change-requests.md up to the last request that is on the page. What stands in quotation marks, on the page,
 in docs/DECISIONS.md and in the comments of crates/*/specs, has to be in one of the papers, word for word; `..` and `...` leave
 something out, and fewer than three words are not looked for. White space and marks of layout are not compared.
 
@@ -21,10 +22,11 @@ import sys
 
 from stored import ROOT
 
-LETTER, SCOPE = "00-customers-letter.md", "01-scope.md"
+LETTER, SCOPE, REQUESTS = PAPERS = "00-customers-letter.md", "01-scope.md", "02-change-requests.md"
 PAGE = "docs/SPECIFICATION.md"
 DECISIONS = "docs/DECISIONS.md"
 TITLE = "The station gate: policies, sessions, questions"
+REQUESTS_TITLE = "Later change requests"
 COMMENTS = {".antt": r"^ *--.*$", ".rt": r"^ *//.*$"}
 
 
@@ -91,10 +93,19 @@ def paper_differs(quoted, paper):
         yield f"not in the paper: {text[at:].strip()}"
 
 
+def landed(quoted, requests):
+    """The requests up to the last one that is quoted; each begins a row."""
+    count = sum(bool(re.match(r"R-\d+ ", row)) for row in quoted)
+    return requests.partition(f"**R-{count + 1} ")[0]
+
+
 def page_differs(page, papers):
+    page, requests_title, requests = page.partition(f"## {REQUESTS_TITLE}\n")
     before, title, after = page.partition(f"## {TITLE}\n")
+    quoted = list(first_columns(requests_title + requests, True))
     yield from paper_differs(first_columns(before, False), demands(papers[LETTER]))
     yield from paper_differs(first_columns(title + after, True), papers[SCOPE])
+    yield from paper_differs(quoted, landed(quoted, papers[REQUESTS]))
 
 
 def quoting():
@@ -151,8 +162,8 @@ def main():
     wrong = list(names_missing(page))
     if given.papers:
         papers = papers_in(given.papers)
-        if LETTER not in papers or SCOPE not in papers:
-            arguments.error(f"{given.papers} has not both {LETTER} and {SCOPE}")
+        if missing := [name for name in PAPERS if name not in papers]:
+            arguments.error(f"{given.papers} has no {missing[0]}")
         wrong += [*page_differs(page, papers), *misquoted(papers)]
     print("\n".join(wrong) or f"{PAGE} is right" + (", and all quotations" if given.papers else ""))
     return 1 if wrong else 0

@@ -1,5 +1,7 @@
 //! One call of one exported function, and the memory that it may write.
 
+use crate::plain::interface::Plain;
+
 /// A call of include/gate.h with its number; policy and memory come beside it.
 #[derive(Clone, Copy, PartialEq, Eq, Debug)]
 pub enum Call {
@@ -75,12 +77,33 @@ impl Memory {
     pub fn set_credentials(&mut self, set: u16) {
         self.0[PLACE..PLACE + 2].copy_from_slice(&set.to_le_bytes());
     }
+
+    /// The eight bytes of a log record.
+    pub fn set_record(&mut self, bytes: [u8; 8]) {
+        self.0[PLACE..PLACE + 8].copy_from_slice(&bytes);
+    }
+
+    /// The number of a log's record.
+    pub fn set_place(&mut self, place: usize) {
+        self.0[PLACE..PLACE + 8].copy_from_slice(&place.to_le_bytes());
+    }
 }
 
 /// Something that answers calls: the gate, the plain version, or one with a slip in it.
 pub trait Version {
     /// The reply. A right version writes nothing to the policy, and to the memory only what include/gate.h says.
     fn call(&mut self, call: Call, policy: &mut [u8], memory: &mut Memory) -> u32;
+
+    /// gate_log_record, of a round that showed a set, replied so and left this session; the plain version's where there is no
+    /// other.
+    fn log_record(&mut self, p: u16, reply: u32, session: &mut Memory, memory: &mut Memory) -> u32 {
+        Plain.log_record(p, reply, session, memory)
+    }
+
+    /// gate_compare_logs; the plain version's where there is no other.
+    fn compare_logs(&mut self, first: &mut [u8], second: &mut [u8], memory: &mut Memory) -> u32 {
+        Plain.compare_logs(first, second, memory)
+    }
 }
 
 /// What include/gate.h's macros read of a reply.
@@ -101,3 +124,6 @@ pub fn asked_of(session: [u8; 10]) -> u16 {
 pub const GRANT: u32 = 1;
 pub const DENY: u32 = 2;
 pub const ASK: u32 = 3;
+
+/// "0x400: they part"
+pub const PART: u32 = 0x400;

@@ -2,6 +2,7 @@
 
 use crate::bench_counts::BenchCounts;
 use crate::calls::{ending_of, refusal_of, Call, DENY, GRANT};
+use crate::log_counts::LogCounts;
 use crate::question_counts::QuestionCounts;
 use crate::weighted::counts::WeightedCounts;
 
@@ -77,6 +78,7 @@ pub struct Counts {
     pub definition: u64,
     pub all_stable_sets: u64,
     pub tuned: u64,
+    pub logs: LogCounts,
     pub bench: BenchCounts,
     pub weighted: WeightedCounts,
     pub disagreements: u64,
@@ -137,6 +139,7 @@ impl Counts {
         self.definition += other.definition;
         self.all_stable_sets += other.all_stable_sets;
         self.tuned += other.tuned;
+        self.logs.add(&other.logs);
         self.bench.add(&other.bench);
         self.weighted.add(&other.weighted);
         self.disagreements += other.disagreements;
@@ -166,6 +169,7 @@ impl Counts {
         }
         need(self.licensed_at_bound_lacking, "bound 2 + u".to_string());
         missing.extend(self.questions.missing());
+        missing.extend(self.logs.missing());
         missing.extend(self.bench.missing());
         missing.extend(self.weighted.missing());
         missing
@@ -189,6 +193,7 @@ impl Counts {
         println!("  by the definition: {}", self.definition);
         println!("  by all stable sets tried: {}", self.all_stable_sets);
         println!("  by the tuned version: {}", self.tuned);
+        self.logs.print();
         self.bench.print();
         self.weighted.print();
     }

@@ -1,8 +1,9 @@
 //! Cases that are not random, or not all of it: every length, every head with every single body atom, every request, small
-//! sessions, every size of a question.
+//! sessions, small logs, every size of a question.
 
 use crate::calls::Call;
 use crate::counts::Kind;
+use crate::logs::every_log;
 use crate::marked::policy_a;
 use crate::plain::policy::Record;
 use crate::policies::{access, disclosure, encode};
@@ -92,6 +93,7 @@ pub fn exhaustive(tester: &mut Tester) {
     bodies(tester);
     requests(tester);
     sessions(tester);
+    every_log(tester);
     every_size(tester);
     every_block(tester);
 }

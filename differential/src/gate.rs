@@ -10,6 +10,14 @@ extern "C" {
     fn gate_disclosable(policy: *const u8, length: usize, shown: u16, set: *mut u16) -> u32;
     fn gate_open(request: u16, session: *mut u8) -> u32;
     fn gate_round(policy: *const u8, length: usize, session: *mut u8, shown: u16) -> u32;
+    fn gate_log_record(shown: u16, reply: u32, session: *const u8, record: *mut u8) -> usize;
+    fn gate_compare_logs(
+        first: *const u8,
+        first_length: usize,
+        second: *const u8,
+        second_length: usize,
+        record: *mut usize,
+    ) -> u32;
 }
 
 #[link(name = "probe", kind = "static")]
@@ -42,9 +50,9 @@ fn shifted(shift: usize, memory: &mut Memory, call: impl FnOnce(*mut u8) -> u32)
 
 impl Version for Gate {
     fn call(&mut self, call: Call, policy: &mut [u8], memory: &mut Memory) -> u32 {
-        self.shift = (self.shift + 1) % 8;
+        self.shift = (self.shift + 1) % 64;
         let shift = match call {
-            Call::Open(_) | Call::Round(_) => self.shift,
+            Call::Open(_) | Call::Round(_) => self.shift % 8,
             _ => return call_set(call, policy, memory),
         };
         let (bytes, length) = (policy.as_mut_ptr().cast_const(), policy.len());
@@ -55,6 +63,25 @@ impl Version for Gate {
                 _ => gate_round(bytes, length, place, call.argument()),
             }
         })
+    }
+
+    fn log_record(&mut self, p: u16, reply: u32, session: &mut Memory, memory: &mut Memory) -> u32 {
+        self.shift = (self.shift + 1) % 64;
+        let (one, other) = (self.shift % 8, self.shift / 8);
+        // SAFETY: both pointers have 24 bytes after them, each in memory of its own.
+        shifted(one, session, |session| {
+            shifted(other, memory, |place| unsafe {
+                u32::try_from(gate_log_record(p, reply, session, place)).unwrap_or(u32::MAX)
+            })
+        })
+    }
+
+    fn compare_logs(&mut self, first: &mut [u8], second: &mut [u8], memory: &mut Memory) -> u32 {
+        let place = memory.0[PLACE..].as_mut_ptr().cast();
+        let (one, other) = (first.as_mut_ptr(), second.as_mut_ptr());
+        // SAFETY: each log's pointer is valid for its length; the place is aligned to 8 and has 24 bytes after it; the three are
+        // borrowed mutably and so do not overlap.
+        unsafe { gate_compare_logs(one, first.len(), other, second.len(), place) }
     }
 }
 

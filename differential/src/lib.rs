@@ -1,4 +1,4 @@
-//! Differential tests and a benchmark of the station gate, against document 01 in plain Rust.
+//! Differential tests and a benchmark of the station gate, against documents 01 and 02 in plain Rust.
 
 pub mod bench_counts;
 pub mod bench_runs;
@@ -11,6 +11,8 @@ pub mod definition;
 pub mod demands;
 pub mod exhaustive;
 pub mod gate;
+pub mod log_counts;
+pub mod logs;
 pub mod marked;
 pub mod options;
 pub mod plain;

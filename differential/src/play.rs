@@ -5,12 +5,14 @@ use crate::clients::{manner, shows, Manner, Seen};
 use crate::counts::Kind;
 use crate::damage::damaged;
 use crate::demands::{licensed, Played};
+use crate::logs::compare_with;
 use crate::plain::interface::decode;
 use crate::plain::lists::{askable_count, asked, closes, lacked_count, shown_by, Accepted};
+use crate::plain::log::log;
 use crate::plain::policy::Record;
 use crate::plain::session::Ending;
 use crate::policies;
-use crate::report::Trail;
+use crate::report::{hex, Trail};
 use crate::requests::{credentials, request};
 use crate::tester::Tester;
 use crate::tuned;
@@ -44,6 +46,8 @@ struct List {
     accepted: Vec<Accepted>,
     rounds: usize,
     memory: Memory,
+    /// The records of its rounds.
+    log: Vec<u8>,
 }
 
 impl List {
@@ -73,6 +77,7 @@ fn open(tester: &mut Tester, request: u16) -> Option<List> {
         accepted: Vec::new(),
         rounds: 0,
         memory,
+        log: Vec::new(),
     })
 }
 
@@ -90,7 +95,25 @@ fn play(tester: &mut Tester, list: &mut List, kind: Kind, p: u16) -> bool {
         let ending = ending(reply, memory.session());
         list.accepted.push(Accepted { p, ending });
     }
+    match tester.log_record(p, reply, memory.session()) {
+        Some(record) => list.log.extend(record),
+        None => return false,
+    }
     true
+}
+
+/// "Each accepted round gives its record": the whole log of a list, read off the list and its answers alone.
+fn hold_to_log(tester: &mut Tester, list: &List) {
+    let wanted = log(&list.accepted);
+    tester.counts.logs.lists += 1;
+    if list.log != wanted {
+        let lines = [
+            format!("request {}", list.request),
+            format!("log: {}", hex(&list.log)),
+            format!("of the list: {}", hex(&wanted)),
+        ];
+        tester.found_in_logs("the log of a list", &lines);
+    }
 }
 
 /// Plays a list under one policy until it is closed, and some rounds more, or breaks off before.
@@ -143,6 +166,7 @@ fn hold_to_demands(tester: &mut Tester, list: &List, manner: Manner) {
         broken.push(format!("count {count:?}, accepted {}", list.accepted.len()));
     }
     count_list(tester, list, d, manner, licence);
+    hold_to_log(tester, list);
     for clause in broken {
         let title = format!("demand 3: {clause}");
         tester.found(title, Call::Check, list.memory, Vec::new());
@@ -175,11 +199,17 @@ pub fn lists(tester: &mut Tester) {
         policies::accepted(&mut tester.random)
     };
     tester.set_policy(policies::encode(&records));
+    let mut log = Vec::new();
+    let mut request = request_with_question(tester, &records);
     for _ in 0..3 {
-        let request = request_with_question(tester, &records);
+        if tester.random.one_in(2) {
+            request = request_with_question(tester, &records);
+        }
         let manner = manner(&mut tester.random);
         if let Some(list) = play_list(tester, request, Kind::ListClient, manner) {
             hold_to_demands(tester, &list, manner);
+            compare_with(tester, &list.log, &log);
+            log = list.log;
         }
         tester.trail = None;
     }
@@ -258,5 +288,6 @@ pub fn changing_list(tester: &mut Tester) {
             return;
         }
     }
+    hold_to_log(tester, &list);
     tester.counts.changing += 1;
 }

@@ -86,9 +86,12 @@ impl Shared {
         number
     }
 
-    /// A disagreement that is no call of include/gate.h: printed with all that it takes to repeat it.
+    /// A disagreement with no policy or round to it: printed with all that it takes to repeat it.
     pub fn tell(&self, title: &str, lines: &[String]) {
         let number = self.counted();
+        if self.quiet {
+            return;
+        }
         let _printing = self.printing.lock();
         println!("\ndisagreement {number}: {title}");
         for line in lines {

@@ -3,6 +3,7 @@
 use crate::calls::{refusal_of, Call, Memory};
 use crate::counts::Kind;
 use crate::damage::{boundary, damaged};
+use crate::logs::logs;
 use crate::plain::interface::encode;
 use crate::plain::policy::Record;
 use crate::play::{changing_list, cooperative_lists, lists};
@@ -125,8 +126,14 @@ fn rounds_from(tester: &mut Tester, records: &[Record], kind: Kind, mut memory: 
 /// One scenario in so many is a round made for its question.
 const QUESTIONS_IN: usize = 100;
 
+/// And one in so many is about logs that are made up.
+const LOGS_IN: usize = 20;
+
 /// One scenario.
 pub fn scenario(tester: &mut Tester) {
+    if tester.random.one_in(LOGS_IN) {
+        return logs(tester);
+    }
     if tester.random.one_in(QUESTIONS_IN) {
         return questions(tester);
     }

@@ -1,5 +1,7 @@
 //! Runs cases: one call of the version under test and of the plain version, all that they answer compared.
 
+mod logs;
+
 use crate::calls::{refusal_of, Call, Memory, Version};
 use crate::counts::{Counts, Kind};
 use crate::definition::{cost, sound, stable_sets, Definition};

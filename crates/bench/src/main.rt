@@ -1,11 +1,9 @@
-// The bench program (document 01, "The bench program"). It opens, reads and writes; what it prints is worked out by `console`.
+// The bench program (document 01, "The bench program"). It reads and writes; what it prints is worked out by `console` and `lines`.
 ghost use Rattle.lines.specs.Lines.{Room};
 use console::reader::Reader;
 use libc::STDIN_FILENO;
 use libc::STDOUT_FILENO;
 use lines::line::Line;
-
-mod policy_file;
 
 enum Next {
     Byte(Reader),
@@ -13,8 +11,8 @@ enum Next {
 }
 
 fn main() {
-    let mut space = console::room();
-    let bytes = policy_file::read(&mut space);
+    let mut space = files::room();
+    let bytes = files::policy(&mut space);
     run(&space[..bytes]);
 }
 
@@ -42,9 +40,9 @@ fn step(policy: &[u8], reader: Reader) -> Next {
         return Next::End;
     }
     let step = reader.next(policy, byte[0]);
-    let line = step.line;
+    let event = step.event;
     let after = step.reader;
-    if !print(line) {
+    if !print(lines::of_event(event)) {
         return Next::End;
     }
     Next::Byte(after)

@@ -4,7 +4,12 @@ ghost use Rattle.form.specs.PolicyTest.{policyRefusal};
 ghost use Rattle.disclosure.specs.Answers.{disclosableAnswer};
 ghost use Rattle.model.specs.Answers.{modelAnswer};
 ghost use Rattle.packing.specs.Exports.{checkReply, noSessionReply, openCall, roundCall, setAfter, setReply};
+ghost use Rattle.logs.specs.Comparison.{compared};
+ghost use Rattle.session_logs.specs.Exports.{comparisonReply, placeAfter, recordCall};
 use disclosure::Disclosed;
+use entries::ENTRY_BYTES;
+use log_wire::compare_logs;
+use log_wire::write_record;
 use model::Modelled;
 use policy::Checked;
 use policy::check;
@@ -99,6 +104,31 @@ pub extern "C" fn gate_round(policy: &[u8], session: &mut [u8; RECORD_BYTES], sh
         }
         Answer::Refused(refusal) => reply::of_refusal(refusal),
     }
+}
+
+// The log record of a round, written unless the round was refused; the number of bytes written comes back.
+#[no_mangle]
+pub extern "C" fn gate_log_record(
+    shown: u16,
+    reply: u32,
+    session: &[u8; RECORD_BYTES],
+    bytes: &mut [u8; ENTRY_BYTES],
+) -> usize
+    ensures answer { λ r. ⌜ r ≡ recordCall shown reply (now (session .entry)) (now (bytes .entry)) .reply ⌝ }
+    ensures written { λ _. ⌜ now (bytes .exit) ≡ recordCall shown reply (now (session .entry)) (now (bytes .entry)) .leaves ⌝ }
+    ensures unchanged { λ _. ⌜ now (session .exit) ≡ now (session .entry) ⌝ }
+{
+    write_record(shown, reply, session, bytes)
+}
+
+// Two logs held against each other; the record where they part is written if they do.
+#[no_mangle]
+pub extern "C" fn gate_compare_logs(first: &[u8], second: &[u8], place: &mut usize) -> u32
+    ensures answer { λ r. ⌜ r ≡ comparisonReply (compared (now (first .entry)) (now (second .entry))) ⌝ }
+    ensures written { λ _. ⌜ now (place .exit) ≡ placeAfter (compared (now (first .entry)) (now (second .entry))) (now (place .entry)) ⌝ }
+    ensures unchanged { λ _. ⌜ (now (first .exit) ≡ now (first .entry)) × (now (second .exit) ≡ now (second .entry)) ⌝ }
+{
+    compare_logs(first, second, place)
 }
 
 // What is no session is refused 8, after the policy's test.

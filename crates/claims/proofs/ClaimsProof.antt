@@ -32,6 +32,13 @@ use Rattle.replay.proofs.TheoremsProof as replay
 use Rattle.packing.proofs.TheoremsProof as packing
 use Rattle.transcript.proofs.TheoremsProof as transcript
 use Rattle.console.proofs.TheoremsProof as console
+use Rattle.lines.proofs.TheoremsProof as lines
+use Rattle.logs.proofs.TheoremsProof as logs
+use Rattle.session_logs.proofs.TheoremsProof as session-logs
+use Rattle.entries.proofs.TheoremsProof as entries
+use Rattle.log.proofs.TheoremsProof as log
+use Rattle.recorder.proofs.TheoremsProof as recorder
+use Rattle.recording.proofs.TheoremsProof as recording
 use Rattle.claims.specs.Claims.{Claims}
 
 pub claims : Claims
@@ -81,4 +88,11 @@ claims = record {
   marked = marked;
   printed = transcript.theorems;
   steps = console.theorems;
+  lines = lines.theorems;
+  logs = logs.theorems;
+  recorded = session-logs.theorems;
+  log-records = entries.theorems;
+  comparisons = log.theorems;
+  round-records = recorder.theorems;
+  recording = recording.theorems;
 }

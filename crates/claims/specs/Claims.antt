@@ -26,15 +26,22 @@
 -- replay: Calls, turnOf, movesOf
 -- packing: Packable, packed, unpacked, tenBytes, Call, openCall, roundCall, callsFrom, checkReply, setReply, setAfter, replyFor, callOf, Told with
 --   its parts, askedIn, and what Examples names
--- transcript: ascii, Says, Hexadecimal, Decimal; output, inputRecords, recordsOutput, roundLine, roundLines; Reader, begun, isEnded, byteStep,
---   bytesRun, readStep, readsRun, printedBy
--- lines: textOf
--- console: Calls, turnOf, inputOf, readerAfter, readerOf, stepOf
+-- transcript: ascii, Says, Hexadecimal, Decimal; Event, events, inputRecords; printed, output, recordsOutput, refusedLine, roundLine, roundLines;
+--   Reader, begun, isEnded, byteStep, bytesRun, readStep, readsRun, toldBy, printedBy
+-- console: Calls, turnOf, inputOf, toldIn, readerAfter, readerOf, eventsOf, stepOf
+-- lines: textOf, Prints, Printing, callsIn, textIn, Printings
+-- logs: Entry, readEntry, writeEntry, entryAt, entriesOf, FitsEntry, SaidAt; HasEntry, Whole, SoundEntry, SoundLog, UnsoundLog; Agree, Agreeing,
+--   AgreeAt, DifferAt, EndsAt, PartAt, compared, Compares, and what Examples names
+-- session_logs: roundRecord, endingEntry, Recordable, RecordBytes, SameRound; logOf, LogSays, Played; Said, saidOf, endingsOf, Meets, BreaksBy,
+--   AnswersOtherwise, ImplementationsCompared; recordCall, Recorded, comparisonReply, placeAfter
+-- recording: eventRecord, logged, eventNotice, noticed, recordedLog, recordedNotice, Writes; writtenOf, Writing, WrittenAs, Writings, callsOf, logIn,
+--   noticeIn
+-- recorder: Flagged, flagged, recordIn
 -- and the cases of the types among them, and the maps from the program's types (specs/Types of records, policy, disclosure, model, search, question,
--- session and replay; specs/Steps of console). What a word computes is no matter of belief where a theorem here says what it gives: the operations
--- on sets, the closure, the model, the disclosable set, the tests, the preferred question, the sets shown and declined, the digits. That lent bytes
--- are not written stands in the contract of each open function, demands 1 and 2 of each call in those of `open` and `round`, and demand 3 of a whole
--- list in that of `replay`. Assumes nothing.
+-- session, replay, entries, log and recorder; specs/Steps of console). What a word computes is no matter of belief where a theorem here says what it
+-- gives: the operations on sets, the closure, the model, the disclosable set, the tests, the preferred question, the sets shown and declined, the
+-- digits. That lent bytes are not written stands in the contract of each open function, demands 1 and 2 of each call in those of `open` and `round`,
+-- demand 3 of a whole list in that of `replay`, and that an event's line says its text in that of `of_event`. Assumes nothing.
 use mathlib.Core.Path.{_≡_}
 use mathlib.Core.List.{List}
 use Prim.Native.Nat.{_<_, _^_, ℕ}
@@ -75,6 +82,13 @@ use Rattle.replay.specs.Theorems as replay
 use Rattle.packing.specs.Theorems as packing
 use Rattle.transcript.specs.Theorems as transcript
 use Rattle.console.specs.Theorems as console
+use Rattle.lines.specs.Theorems as lines
+use Rattle.logs.specs.Theorems as logs
+use Rattle.session_logs.specs.Theorems as sessionLogs
+use Rattle.entries.specs.Theorems as entries
+use Rattle.log.specs.Theorems as log
+use Rattle.recorder.specs.Theorems as recorder
+use Rattle.recording.specs.Theorems as recording
 use Rattle.claims.specs.Constants.{Constants}
 
 pub record Claims : Type 1 where
@@ -143,3 +157,15 @@ pub record Claims : Type 1 where
   -- what the bench program prints, from the bytes of two files, and that its steps print this
   pub printed : transcript.Theorems
   pub steps : console.Theorems
+  -- and that the lines of the calls are the output
+  pub lines : lines.Theorems
+  -- document 02, R-1: log records, and what the comparison of two logs answers
+  pub logs : logs.Theorems
+  -- the log of a list of rounds, what a comparison says of two implementations, and both from C
+  pub recorded : sessionLogs.Theorems
+  -- what the program's log record, the answer of a comparison and the record of a round mean is one-to-one
+  pub log-records : entries.Theorems
+  pub comparisons : log.Theorems
+  pub round-records : recorder.Theorems
+  -- what the program that records a session's log writes
+  pub recording : recording.Theorems

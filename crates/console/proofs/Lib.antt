@@ -1,3 +1,3 @@
--- The laws of lines and calls, and the theorems.
+-- The laws of calls, and the theorems.
 pub mod CallsProof
 pub mod TheoremsProof

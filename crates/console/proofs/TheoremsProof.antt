@@ -12,7 +12,7 @@ use Rattle.console.specs.declared.reader.Half.the-variants.{Low, Nothing
 use Rattle.console.specs.declared.reader.Reader.{Reader}
 use Rattle.console.specs.declared.stage.Stage.{Stage}
 use Rattle.console.specs.declared.stage.Stage.the-variants.{Ended, Request, Rounds}
-use Rattle.console.proofs.CallsProof.{calls-mean, program-prints, program-stops}
+use Rattle.console.proofs.CallsProof.{calls-mean, program-prints, program-stops, program-tells}
 
 stageBack : S.Stage → Stage
 stageBack S.request = Request
@@ -43,6 +43,7 @@ reader-back x = ap₂ (λ (s : Stage) (h : Half). record { stage = s; half = h }
 
 pub theorems : Theorems
 theorems = record {
+  tells = program-tells;
   program = program-prints;
   stops = program-stops;
   calls = calls-mean;

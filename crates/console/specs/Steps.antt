@@ -1,10 +1,12 @@
 -- What the program's steps mean. Assumes nothing.
-use mathlib.Core.Path.{_≡_}
+use mathlib.Core.List.{List, [], _∷_}
 use mathlib.Core.Option.{Option, none, some}
 use Prim.Native.Nat.{ℕ}
-use Rattle.session.specs.Types.{sessionOf}
+use Rattle.session.specs.Types.{moveOf, outcomeOf, refusalOf, sessionOf}
+use Rattle.transcript.specs.Events as E
 use Rattle.transcript.specs.Steps as S
-use Rattle.lines.specs.Lines.{Room, textOf}
+use Rattle.console.specs.declared.event.Event.{Event}
+use Rattle.console.specs.declared.event.Event.the-variants as event
 use Rattle.console.specs.declared.reader.Half.{Half}
 use Rattle.console.specs.declared.reader.Half.the-variants.{Low, Nothing}
 use Rattle.console.specs.declared.reader.Reader.{Reader}
@@ -25,17 +27,14 @@ halfOf (Low b) = some b
 abbrev pub readerOf : Reader → S.Reader
 readerOf r = record { stage = stageOf (r .stage); half = halfOf (r .half) }
 
+-- an event, or none
+abbrev pub eventsOf : Event → List E.Event
+eventsOf event.Nothing = []
+eventsOf (event.Unopened f) = E.unopened (refusalOf f) ∷ []
+eventsOf (event.Played m o) = E.played (moveOf m) (outcomeOf o) ∷ []
+
 abbrev pub recordStepOf : RecordStep → S.RecordStep
-recordStepOf x = record { printed = textOf (x .line); stage = stageOf (x .stage) }
+recordStepOf x = record { tells = eventsOf (x .event); stage = stageOf (x .stage) }
 
 abbrev pub stepOf : Step → S.Step
-stepOf x = record { printed = textOf (x .line); reader = readerOf (x .reader) }
-
--- x is y, and its line is whole
-pub record GivesRecord (x : RecordStep) (y : S.RecordStep) : Type 0 where
-  pub step : recordStepOf x ≡ y
-  pub whole : Room (x .line) 0
-
-pub record Gives (x : Step) (y : S.Step) : Type 0 where
-  pub step : stepOf x ≡ y
-  pub whole : Room (x .line) 0
+stepOf x = record { tells = eventsOf (x .event); reader = readerOf (x .reader) }

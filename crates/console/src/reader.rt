@@ -4,11 +4,10 @@ ghost use mathlib.Core.Option.{some};
 ghost use mathlib.Core.List.{[], _∷_};
 ghost use Rattle.encoding.specs.LittleEndian.{littleEndian};
 ghost use Rattle.transcript.specs.Steps.{begun, byteStep, isEnded, recordStep, wholeStep};
-ghost use Rattle.lines.specs.Lines.{Room};
-ghost use Rattle.console.specs.Steps.{Gives, readerOf, stageOf, stepOf};
+ghost use Rattle.console.specs.Steps.{readerOf, stageOf, stepOf};
+use crate::event::Event;
 use crate::stage::Stage;
 use crate::stage::record;
-use lines::line::Line;
 
 // The first byte of a record, until the second comes.
 pub enum Half {
@@ -22,9 +21,9 @@ pub struct Reader {
     pub half: Half,
 }
 
-// What a byte prints, which may be nothing, and the reader then.
+// What a byte tells, and the reader then.
 pub struct Step {
-    pub line: Line,
+    pub event: Event,
     pub reader: Reader,
 }
 
@@ -39,7 +38,7 @@ impl Reader {
         }
     }
 
-    // Whether nothing more is printed, whatever comes.
+    // Whether nothing more is told, whatever comes.
     pub fn ended(self) -> bool
         ensures { λ r. ⌜ r ≡ isEnded (readerOf self) ⌝ }
     {
@@ -54,7 +53,6 @@ impl Reader {
     // The next byte of the input.
     pub fn next(self, policy: &[u8], byte: u8) -> Step
         ensures answer { λ r. ⌜ stepOf r ≡ byteStep (now (policy .entry)) (readerOf self) byte ⌝ }
-        ensures whole { λ r. ⌜ Room (r .line) 0 ⌝ }
         ensures unchanged { λ _. ⌜ now (policy .exit) ≡ now (policy .entry) ⌝ }
     {
         let stage = self.stage;
@@ -66,12 +64,12 @@ impl Reader {
     }
 }
 
-// A record is begun, and nothing printed.
+// A record is begun, and nothing told.
 fn first_byte(stage: Stage, byte: u8) -> Step
-    ensures { λ r. ⌜ Gives r (record { printed = []; reader = record { stage = stageOf stage; half = some byte } }) ⌝ }
+    ensures { λ r. ⌜ stepOf r ≡ record { tells = []; reader = record { stage = stageOf stage; half = some byte } } ⌝ }
 {
     Step {
-        line: Line::empty(),
+        event: Event::Nothing,
         reader: Reader {
             stage,
             half: Half::Low(byte),
@@ -81,13 +79,13 @@ fn first_byte(stage: Stage, byte: u8) -> Step
 
 // A record is whole.
 fn second_byte(stage: Stage, policy: &[u8], number: u16) -> Step
-    ensures { λ r. ⌜ Gives r (wholeStep (recordStep (now (policy .entry)) (stageOf stage) number)) ⌝ }
+    ensures { λ r. ⌜ stepOf r ≡ wholeStep (recordStep (now (policy .entry)) (stageOf stage) number) ⌝ }
 {
     let whole = record(stage, policy, number);
-    let line = whole.line;
+    let event = whole.event;
     let stage = whole.stage;
     Step {
-        line,
+        event,
         reader: Reader {
             stage,
             half: Half::Nothing,

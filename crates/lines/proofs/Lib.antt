@@ -1,2 +1,3 @@
--- The laws of lines.
+-- The laws of lines, and the theorems.
 pub mod LineLaws
+pub mod TheoremsProof

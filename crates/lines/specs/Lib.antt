@@ -1,2 +1,3 @@
--- What a line says.
+-- What a line says, and the lines of calls.
 pub mod Lines
+pub mod Theorems

@@ -1,4 +1,4 @@
-// The bench program's lines (document 01, "The bench program"): the line of a round, and that of a refusal.
+// The bench program's lines (document 01, "The bench program"): the line of an event, which is that of a round or of a refusal.
 ghost use mathlib.Core.List.{_++_};
 ghost use Prim.Native.Nat.{_+_, _≤_};
 ghost use lib.ListN.{length};
@@ -7,7 +7,10 @@ ghost use Rattle.session.specs.Types.{endingOf, moveOf, outcomeOf, refusalOf};
 ghost use Rattle.policy.specs.Types.{refusalOf as policyRefusalOf};
 ghost use Rattle.transcript.specs.Numerals.{decimal};
 ghost use Rattle.transcript.specs.Lines.{gotText, line, refusedLine, roundLine, roundText};
+ghost use Rattle.transcript.specs.Output.{printed};
+ghost use Rattle.console.specs.Steps.{eventsOf};
 ghost use Rattle.lines.specs.Lines.{Prints};
+use console::event::Event;
 use line::Line;
 use session::Move;
 use session::Outcome;
@@ -16,6 +19,17 @@ use session::answer::Ending;
 use session::refusal::Refusal;
 
 pub mod line;
+
+// The line of an event, or none.
+pub fn of_event(event: Event) -> Line
+    ensures { λ r. ⌜ Prints r (printed (eventsOf event)) ⌝ }
+{
+    match event {
+        Event::Nothing => Line::empty(),
+        Event::Unopened(refusal) => of_refusal(refusal),
+        Event::Played(taken, outcome) => of_round(taken, outcome),
+    }
+}
 
 // The line of a round: its count and what was shown, unless it is refused.
 pub fn of_round(taken: Move, outcome: Outcome) -> Line

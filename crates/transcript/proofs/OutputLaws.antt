@@ -1,5 +1,5 @@
 -- The output, sentence by sentence. Assumes nothing.
-use mathlib.Core.Path.{_∙_, _≡_, ap, ap₂, refl}
+use mathlib.Core.Path.{_∙_, _≡_, ap, ap₂, refl, sym}
 use mathlib.Core.Bool.{Bool, false, true}
 use mathlib.Core.List.{List, [], _++_, _∷_, append-assoc, append-nil, flatMap}
 use mathlib.Core.Option.{none, some}
@@ -14,6 +14,7 @@ use Rattle.lists.specs.Runs.{run}
 use Rattle.validation.specs.Tests.{firstFailed, relabelled}
 use Rattle.validation.specs.Unless.{given, withheld}
 use Rattle.form.specs.PolicyTest.{policyRefusal, policyTests}
+use Rattle.form.specs.WrittenForm as W
 use Rattle.form.specs.WrittenForm.{WellFormed, at}
 use Rattle.preference.specs.Question.{Question}
 use Rattle.rounds.proofs.SessionLaws.{decides-service}
@@ -24,10 +25,11 @@ use Rattle.rounds.specs.Refusals.{Refusal, number, ofPolicy}
 use Rattle.rounds.specs.Rounds.{Answer, Outcome, ends, opening, refused, round}
 use Rattle.rounds.specs.RoundTest.{openingTests}
 use Rattle.rounds.specs.Sessions.{Finished, Service, Session, SoundSession, isService, opened}
+use Rattle.transcript.specs.Events.{Event, events, inputRecords, policyBytes, recordsEvents, roundEvents, sessionEvents, testedEvents, unopened}
 use Rattle.transcript.specs.Lines.{answerText, endingText, gotText, line, refusedLine, roundLine, roundText}
 use Rattle.transcript.specs.Numerals.{ascii, decimal, decimalIn, digit, hexadecimal}
-use Rattle.transcript.specs.Output.{inputRecords, output, policyBytes, recordsOutput, roundLines, sessionOutput, testedOutput}
-use Rattle.transcript.specs.Theorems.{LineTheorems, OutputTheorems}
+use Rattle.transcript.specs.Output.{eventText, output, printed, recordsOutput, roundLines}
+use Rattle.transcript.specs.Theorems.{EventTheorems, LineTheorems, OutputTheorems}
 
 -- ---- records
 
@@ -72,13 +74,56 @@ too-long bytes l = rw (lt-leb (length bytes) 2304 l) refl
 long-taken : (file : List ℕ) → 2304 < length file → 2304 < length (take policyBytes file)
 long-taken file l = omega (arith, length-take policyBytes file)
 
--- ---- the output
+-- ---- the text of events
 
-begins : (file : List ℕ) (low high : ℕ) (rest : List ℕ)
-    → output file (low ∷ high ∷ rest)
-    ≡ testedOutput (policyRefusal (take policyBytes file)) (take policyBytes file) (low + 256 * high) (inputRecords rest)
-unfolding output
-begins file low high rest = ap (recordsOutput (take policyBytes file)) (records-cons low high rest)
+pub printed-more : (xs ys : List Event) → printed (xs ++ ys) ≡ printed xs ++ printed ys
+unfolding printed flatMap
+printed-more [] ys = refl
+printed-more (x ∷ xs) ys = ap (_++_ (eventText x)) (printed-more xs ys) ∙ sym (append-assoc (eventText x) (printed xs) (printed ys))
+
+pub printed-one : (x : Event) → printed (x ∷ []) ≡ eventText x
+unfolding printed flatMap
+printed-one x = append-nil (eventText x)
+
+-- ---- what there is to tell
+
+nothing-told : (policy : List ℕ) → recordsEvents policy [] ≡ []
+nothing-told policy = refl
+
+-- "the policy being tested first"
+policy-told : (f : W.Refusal) (policy : List ℕ) (r : ℕ) (ps : List ℕ) → testedEvents (some f) policy r ps ≡ unopened (ofPolicy f) ∷ []
+policy-told f policy r ps = refl
+
+module _ (file : List ℕ) where
+  abbrev policy : List ℕ
+  policy = take policyBytes file
+
+  begins : (low high : ℕ) (rest : List ℕ)
+      → events file (low ∷ high ∷ rest) ≡ testedEvents (policyRefusal policy) policy (low + 256 * high) (inputRecords rest)
+  unfolding events
+  begins low high rest = ap (recordsEvents policy) (records-cons low high rest)
+
+  opened-events : policyRefusal policy ≡ none → (low high : ℕ) (rest : List ℕ)
+      → events file (low ∷ high ∷ rest) ≡ sessionEvents policy (opening (low + 256 * high)) (inputRecords rest)
+  opened-events e low high rest = begins low high rest ∙ ap (λ o. testedEvents o policy (low + 256 * high) (inputRecords rest)) e
+
+  pub events-told : EventTheorems file
+  unfolding events roundEvents run
+  events-told = record {
+    no-request = λ xs l. ap (recordsEvents policy) (records-none xs l) ∙ nothing-told policy;
+    refused-policy = λ f e low high rest.
+        begins low high rest
+        ∙ ap (λ o. testedEvents o policy (low + 256 * high) (inputRecords rest)) e
+        ∙ policy-told f policy (low + 256 * high) (inputRecords rest);
+    refused-request = λ e low high h rest.
+        opened-events e low high rest ∙ ap (λ u. sessionEvents policy u (inputRecords rest)) (opening-withheld (low + 256 * high) h);
+    rounds = λ e low high h rest.
+        opened-events e low high rest ∙ ap (λ u. sessionEvents policy u (inputRecords rest)) (opening-given (low + 256 * high) h);
+    no-round = λ s. refl;
+    one-more = λ s p ps. refl;
+  }
+
+-- ---- the output
 
 policy-text : (n k : ℕ) → refusedLine (ofPolicy (at n k)) ≡ ascii "refused " ++ (decimal n ++ (ascii " at " ++ (decimal k ++ ascii "\n")))
 unfolding refusedLine
@@ -92,10 +137,9 @@ number-text n =
 
 refused-policy : (file : List ℕ) (n k : ℕ) → policyRefusal (take policyBytes file) ≡ some (at n k) → (low high : ℕ) (rest : List ℕ)
     → output file (low ∷ high ∷ rest) ≡ ascii "refused " ++ (decimal n ++ (ascii " at " ++ (decimal k ++ ascii "\n")))
+unfolding output
 refused-policy file n k e low high rest =
-    begins file low high rest
-    ∙ ap (λ o. testedOutput o (take policyBytes file) (low + 256 * high) (inputRecords rest)) e
-    ∙ policy-text n k
+    ap printed (events-told file .refused-policy (at n k) e low high rest) ∙ printed-one (unopened (ofPolicy (at n k))) ∙ policy-text n k
 
 one-at-128 : ascii "refused " ++ (decimal 1 ++ (ascii " at " ++ (decimal 128 ++ ascii "\n"))) ≡ ascii "refused 1 at 128\n"
 unfolding decimalIn digit
@@ -105,32 +149,26 @@ seven : refusedLine (number 7) ≡ ascii "refused 7\n"
 unfolding refusedLine decimalIn digit
 seven = refl
 
-opened-output : (file : List ℕ) → policyRefusal (take policyBytes file) ≡ none → (low high : ℕ) (rest : List ℕ)
-    → output file (low ∷ high ∷ rest) ≡ sessionOutput (take policyBytes file) (opening (low + 256 * high)) (inputRecords rest)
-opened-output file e low high rest =
-    begins file low high rest ∙ ap (λ o. testedOutput o (take policyBytes file) (low + 256 * high) (inputRecords rest)) e
-
 round-more : (policy : List ℕ) (s : Session) (p : ℕ) (ps : List ℕ)
     → roundLines policy s (p ∷ ps)
     ≡ roundLine (showing p) (round policy s (showing p)) ++ roundLines policy (round policy s (showing p) .session) ps
-unfolding roundLines run flatMap
+unfolding roundLines roundEvents printed run flatMap
 round-more policy s p ps = refl
 
 pub outputs : (file : List ℕ) → OutputTheorems file
-unfolding output roundLines run flatMap
+unfolding output events roundLines roundEvents printed run flatMap
 outputs file = record {
-  no-request = λ xs l. ap (recordsOutput (take policyBytes file)) (records-none xs l);
+  nothing-told = refl;
+  unopened-told = λ f es. refl;
+  played-told = λ m o es. refl;
+  no-request = λ xs l. ap printed (events-told file .no-request xs l);
   odd-byte = λ xs b e. ap (recordsOutput (take policyBytes file)) (records-odd xs b e);
   refused-policy = refused-policy file;
   too-long = λ l low high rest. refused-policy file 1 128 (too-long (take policyBytes file) (long-taken file l)) low high rest ∙ one-at-128;
   all-read = λ l xs. ap (λ (p : List ℕ). recordsOutput p (inputRecords xs)) (take-all policyBytes file (omega (arith, l)));
   refused-request = λ e low high h rest.
-      opened-output file e low high rest
-      ∙ ap (λ u. sessionOutput (take policyBytes file) u (inputRecords rest)) (opening-withheld (low + 256 * high) h)
-      ∙ seven;
-  rounds = λ e low high h rest.
-      opened-output file e low high rest
-      ∙ ap (λ u. sessionOutput (take policyBytes file) u (inputRecords rest)) (opening-given (low + 256 * high) h);
+      ap printed (events-told file .refused-request e low high h rest) ∙ printed-one (unopened (number 7)) ∙ seven;
+  rounds = λ e low high h rest. ap printed (events-told file .rounds e low high h rest);
   records = records-cons;
   no-record = records-none;
   no-round = λ s. refl;

@@ -20,20 +20,21 @@ use Rattle.rounds.specs.Endings.{ending}
 use Rattle.rounds.specs.Rounds.{opening, round, worked}
 use Rattle.rounds.specs.RoundTest.{openingTests, roundRefusal, sessionRefusal}
 use Rattle.marked.specs.Marked.{policyA}
+use Rattle.transcript.specs.Events.{events, inputRecords, roundEvents}
 use Rattle.transcript.specs.Lines.{refusedLine, roundLine}
 use Rattle.transcript.specs.Numerals.{ascii, decimalIn, digit, hexadecimal}
-use Rattle.transcript.specs.Output.{inputRecords, output, roundLines}
+use Rattle.transcript.specs.Output.{output, printed}
 use Rattle.transcript.specs.Theorems.{Theorems}
 use Rattle.transcript.proofs.NumeralProofs as numerals
-use Rattle.transcript.proofs.OutputLaws.{lines, outputs}
-use Rattle.transcript.proofs.StepLaws.{bytes-output, ended-nothing, nothing-ended, output-more, output-stops, reads-output}
+use Rattle.transcript.proofs.OutputLaws.{events-told, lines, outputs}
+use Rattle.transcript.proofs.StepLaws.{bytes-events, bytes-output, ended-nothing, nothing-ended, output-more, output-stops, reads-output}
 
 policy-A : output policyA (0x10 ∷ 0x00 ∷ 0x00 ∷ 0x00 ∷ 0x00 ∷ 0x00 ∷ 0x03 ∷ 0x00 ∷ [])
     ≡ ascii "round 1 got 0000 ask 0004\nround 2 got 0000 ask 0003\nround 3 got 0003 grant\n"
 unfolding _if_not_ disclose_if_ writeRecord bytesOf setOf littleEndian readRecord forAtoms accessLevels firstFailed relabelled testsFrom
     policyTests policyRefusal orElse recordsFrom recordsOf ofKind rulesOf reduct times passBy closureBy consequences model disclosable unlocks onesIn size
-    subsets lexBefore preferred candidates chosen ending worked openingTests sessionRefusal roundRefusal round run opening policyA output inputRecords
-    roundLines roundLine refusedLine decimalIn digit hexadecimal flatMap
+    subsets lexBefore preferred candidates chosen ending worked openingTests sessionRefusal roundRefusal round run opening policyA output printed events inputRecords
+    roundEvents roundLine refusedLine decimalIn digit hexadecimal flatMap
 policy-A = refl
 
 pub theorems : Theorems
@@ -41,6 +42,7 @@ theorems = record {
   at-most = refl;
   numerals = numerals.theorems;
   steps = record {
+    told = bytes-events;
     bytes = bytes-output;
     reads = reads-output;
     at-once = output-more;
@@ -49,6 +51,7 @@ theorems = record {
     stops = output-stops;
   };
   lines = lines;
+  events = events-told;
   outputs = outputs;
   policy-A = policy-A;
 }

@@ -1,4 +1,4 @@
--- Document 01, "The bench program": the same output a record and a byte at a time, as the input comes. Assumes nothing.
+-- Document 01, "The bench program": the same events a record and a byte at a time, as the input comes, and so the same output. Assumes nothing.
 use mathlib.Core.Bool.{Bool, false, true}
 use mathlib.Core.List.{List, [], _∷_, flatMap}
 use mathlib.Core.Option.{Option, none, some}
@@ -12,7 +12,8 @@ use Rattle.rounds.specs.Moves.{Move, showing}
 use Rattle.rounds.specs.Refusals.{Refusal, ofPolicy}
 use Rattle.rounds.specs.Rounds.{Outcome, opening, round}
 use Rattle.rounds.specs.Sessions.{Session}
-use Rattle.transcript.specs.Lines.{refusedLine, roundLine}
+use Rattle.transcript.specs.Events.{Event, played, unopened}
+use Rattle.transcript.specs.Output.{printed}
 
 -- ---- a record at a time
 
@@ -22,24 +23,24 @@ pub data Stage : Type 0 where
   rounds : Session → Stage
   ended : Stage
 
--- what a record prints, and what is awaited then
+-- what a record tells, and what is awaited then
 pub record RecordStep : Type 0 where
-  pub printed : List ℕ
+  pub tells : List Event
   pub stage : Stage
 
-abbrev pub ending : List ℕ → RecordStep
-ending xs = record { printed = xs; stage = ended }
+abbrev pub ending : List Event → RecordStep
+ending es = record { tells = es; stage = ended }
 
 abbrev pub openedStep : Unless Refusal Session → RecordStep
-openedStep (given s) = record { printed = []; stage = rounds s }
-openedStep (withheld f) = ending (refusedLine f)
+openedStep (given s) = record { tells = []; stage = rounds s }
+openedStep (withheld f) = ending (unopened f ∷ [])
 
 abbrev pub requestStep : Option W.Refusal → ℕ → RecordStep
 requestStep none r = openedStep (opening r)
-requestStep (some f) r = ending (refusedLine (ofPolicy f))
+requestStep (some f) r = ending (unopened (ofPolicy f) ∷ [])
 
 abbrev pub roundStep : Move → Outcome → RecordStep
-roundStep m o = record { printed = roundLine m o; stage = rounds (o .session) }
+roundStep m o = record { tells = played m o ∷ []; stage = rounds (o .session) }
 
 unfoldable pub recordStep : List ℕ → Stage → ℕ → RecordStep
 recordStep policy request r = requestStep (policyRefusal policy) r
@@ -66,16 +67,16 @@ isEndedStage ended = true
 abbrev pub isEnded : Reader → Bool
 isEnded r = isEndedStage (r .stage)
 
--- what a byte prints, or the bytes of one read, and the reader then
+-- what a byte tells, or the bytes of one read, and the reader then
 pub record Step : Type 0 where
-  pub printed : List ℕ
+  pub tells : List Event
   pub reader : Reader
 
 abbrev pub wholeStep : RecordStep → Step
-wholeStep x = record { printed = x .printed; reader = record { stage = x .stage; half = none } }
+wholeStep x = record { tells = x .tells; reader = record { stage = x .stage; half = none } }
 
 abbrev pub halfStep : List ℕ → Stage → Option ℕ → ℕ → Step
-halfStep policy s none b = record { printed = []; reader = record { stage = s; half = some b } }
+halfStep policy s none b = record { tells = []; reader = record { stage = s; half = some b } }
 halfStep policy s (some low) b = wholeStep (recordStep policy s (littleEndian (low ∷ b ∷ [])))
 
 unfoldable pub byteStep : List ℕ → Reader → ℕ → Step
@@ -83,9 +84,13 @@ byteStep policy r b = halfStep policy (r .stage) (r .half) b
 
 -- ---- any number of bytes
 
--- what a list of steps prints
+-- what a list of steps tells
+abbrev pub toldBy : {I : Type 0} → List (Turn I Step) → List Event
+toldBy ts = flatMap (λ (t : Turn _ Step). t .gives .tells) ts
+
+-- and prints
 abbrev pub printedBy : {I : Type 0} → List (Turn I Step) → List ℕ
-printedBy ts = flatMap (λ (t : Turn _ Step). t .gives .printed) ts
+printedBy ts = printed (toldBy ts)
 
 -- a byte after another
 abbrev pub bytesRun : List ℕ → Reader → List ℕ → List (Turn ℕ Step)
@@ -95,7 +100,7 @@ bytesRun policy = run (byteStep policy) (λ (x : Step). x .reader)
 unfoldable pub readStep : List ℕ → Reader → List ℕ → Step
 readStep policy r bytes =
     let ts = bytesRun policy r bytes in
-    record { printed = printedBy ts; reader = reached (λ (x : Step). x .reader) r (last ts) }
+    record { tells = toldBy ts; reader = reached (λ (x : Step). x .reader) r (last ts) }
 
 -- a read after another
 abbrev pub readsRun : List ℕ → Reader → List (List ℕ) → List (Turn (List ℕ) Step)

@@ -1,5 +1,5 @@
--- The theorems of what the bench program prints: its steps print the output that is defined, however the input is cut, and the output sentence by
--- sentence. Assumes nothing.
+-- The theorems of what the bench program prints: its steps tell the events that are defined, and so print the output, however the input is cut; and
+-- the output sentence by sentence. Assumes nothing.
 use mathlib.Core.Path.{_≡_}
 use mathlib.Core.Bool.{true}
 use mathlib.Core.List.{List, [], _++_, _∷_, flatten}
@@ -8,24 +8,28 @@ use Prim.Native.Nat.{_%_, _*_, _+_, _<_, _≤_, ℕ}
 use lib.ListN.{length, take}
 use Rattle.encoding.specs.LittleEndian.{Bytes}
 use Rattle.form.specs.PolicyTest.{policyRefusal}
+use Rattle.form.specs.WrittenForm as W
 use Rattle.form.specs.WrittenForm.{WellFormed, at}
 use Rattle.preference.specs.Question.{Question}
 use Rattle.rounds.specs.Endings.{ask, deny, grant}
-use Rattle.rounds.specs.Moves.{showing}
-use Rattle.rounds.specs.Refusals.{number, ofPolicy}
-use Rattle.rounds.specs.Rounds.{ends, refused, round}
+use Rattle.rounds.specs.Moves.{Move, showing}
+use Rattle.rounds.specs.Refusals.{Refusal, number, ofPolicy}
+use Rattle.rounds.specs.Rounds.{Outcome, ends, refused, round}
 use Rattle.rounds.specs.Sessions.{Finished, Service, Session, SoundSession, opened}
 use Rattle.marked.specs.Marked.{policyA}
-use Rattle.transcript.specs.Lines.{roundLine}
+use Rattle.transcript.specs.Events.{Event, events, inputRecords, played, policyBytes, roundEvents, unopened}
+use Rattle.transcript.specs.Lines.{refusedLine, roundLine}
 use Rattle.transcript.specs.NumeralTheorems.{NumeralTheorems}
 use Rattle.transcript.specs.Numerals.{ascii, decimal, hexadecimal}
-use Rattle.transcript.specs.Output.{inputRecords, output, policyBytes, recordsOutput, roundLines}
-use Rattle.transcript.specs.Steps.{Reader, begun, bytesRun, isEnded, printedBy, readStep, readsRun}
+use Rattle.transcript.specs.Output.{output, printed, recordsOutput, roundLines}
+use Rattle.transcript.specs.Steps.{Reader, begun, bytesRun, isEnded, printedBy, readStep, readsRun, toldBy}
 
 -- ---- the steps
 
 pub record StepTheorems : Type 0 where
-  -- a byte after another prints what is defined
+  -- a byte after another tells what is defined
+  pub told : (file input : List ℕ) → toldBy (bytesRun (take 2305 file) begun input) ≡ events file input
+  -- and prints it
   pub bytes : (file input : List ℕ) → printedBy (bytesRun (take 2305 file) begun input) ≡ output file input
   -- and so does a read after another, in whatever pieces the input comes
   pub reads : (file : List ℕ) (rs : List (List ℕ)) → printedBy (readsRun (take 2305 file) begun rs) ≡ output file (flatten rs)
@@ -61,9 +65,32 @@ pub record LineTheorems (policy : List ℕ) (s : Session) (p : ℕ) : Type 0 whe
   pub after-closing : Bytes policy → WellFormed policy → SoundSession s → Finished s
       → (ps : List ℕ) → roundLines policy s (p ∷ ps) ≡ ascii "refused 9\n" ++ roundLines policy s ps
 
+-- ---- what there is to tell
+
+pub record EventTheorems (file : List ℕ) : Type 0 where
+  -- "No request record: no output, policy untested."
+  pub no-request : (xs : List ℕ) → length xs < 2 → events file xs ≡ []
+  -- "A refused policy or request ends the output, the policy being tested first"
+  pub refused-policy : (f : W.Refusal) → policyRefusal (take 2305 file) ≡ some f → (low high : ℕ) (rest : List ℕ)
+      → events file (low ∷ high ∷ rest) ≡ unopened (ofPolicy f) ∷ []
+  pub refused-request : policyRefusal (take 2305 file) ≡ none → (low high : ℕ) → (Service (low + 256 * high) → ⊥) → (rest : List ℕ)
+      → events file (low ∷ high ∷ rest) ≡ unopened (number 7) ∷ []
+  -- "first the request, then one shown set a round"
+  pub rounds : policyRefusal (take 2305 file) ≡ none → (low high : ℕ) → Service (low + 256 * high) → (rest : List ℕ)
+      → events file (low ∷ high ∷ rest) ≡ roundEvents (take 2305 file) (opened (low + 256 * high)) (inputRecords rest)
+  -- each record a round, with "the session that the one before gave back, refused or not"
+  pub no-round : (s : Session) → roundEvents (take 2305 file) s [] ≡ []
+  pub one-more : (s : Session) (p : ℕ) (ps : List ℕ)
+      → roundEvents (take 2305 file) s (p ∷ ps)
+      ≡ played (showing p) (round (take 2305 file) s (showing p)) ∷ roundEvents (take 2305 file) (round (take 2305 file) s (showing p) .session) ps
+
 -- ---- the output
 
 pub record OutputTheorems (file : List ℕ) : Type 0 where
+  -- "A refusal prints "refused" with its number", and a round its line
+  pub nothing-told : printed [] ≡ []
+  pub unopened-told : (f : Refusal) (es : List Event) → printed (unopened f ∷ es) ≡ refusedLine f ++ printed es
+  pub played-told : (m : Move) (o : Outcome) (es : List Event) → printed (played m o ∷ es) ≡ roundLine m o ++ printed es
   -- "No request record: no output, policy untested."
   pub no-request : (xs : List ℕ) → length xs < 2 → output file xs ≡ []
   -- "A last odd byte counts for nothing"
@@ -96,6 +123,7 @@ pub record Theorems : Type 0 where
   pub numerals : NumeralTheorems
   pub steps : StepTheorems
   pub lines : (policy : List ℕ) (s : Session) (p : ℕ) → LineTheorems policy s p
+  pub events : (file : List ℕ) → EventTheorems file
   pub outputs : (file : List ℕ) → OutputTheorems file
   -- "Input 10 00 00 00 00 00 03 00 prints, in whole"
   pub policy-A : output policyA (0x10 ∷ 0x00 ∷ 0x00 ∷ 0x00 ∷ 0x00 ∷ 0x00 ∷ 0x03 ∷ 0x00 ∷ [])

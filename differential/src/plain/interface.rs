@@ -1,10 +1,12 @@
 //! The plain version behind the calls of include/gate.h: replies as numbers, sessions as ten bytes.
 
 use super::disclosure::disclosable;
+use super::lists::Accepted;
+use super::log;
 use super::model::model;
 use super::policy::{check, Refusal};
 use super::session::{open, round, Ending, Phase, Session, Verdict};
-use crate::calls::{Call, Memory, Version};
+use crate::calls::{asked_of, Call, Memory, Version, PART};
 
 /// "refused with that number, 1 to 9; with 1 to 6 byte 1 is the number of the policy's record"
 pub fn refusal_reply(refusal: Refusal) -> u32 {
@@ -57,6 +59,14 @@ pub fn encode(session: &Session) -> [u8; 10] {
     bytes
 }
 
+/// How a round ended, by its reply and the set that its session asks for: none of a refused round, nor where a question asks for
+/// nothing.
+pub fn replied(reply: u32, asked: u16) -> Option<Ending> {
+    let endings = [Ending::Grant, Ending::Deny, Ending::Ask(asked)];
+    let ending = endings.into_iter().find(|e| ending_reply(*e) == reply);
+    ending.filter(|ending| *ending != Ending::Ask(0))
+}
+
 /// The plain version as a version to be called.
 pub struct Plain;
 
@@ -102,5 +112,26 @@ impl Version for Plain {
             Call::Round(p) => call_round(memory, || check(policy), |s| round(policy, s, p)),
         };
         answer.unwrap_or_else(refusal_reply)
+    }
+
+    fn log_record(&mut self, p: u16, reply: u32, session: &mut Memory, memory: &mut Memory) -> u32 {
+        let session = session.session();
+        let Some(ending) = replied(reply, asked_of(session)) else {
+            return 0;
+        };
+        let entry = log::entry(&Accepted { p, ending }, session[6]);
+        memory.set_record(log::write(&entry));
+        8
+    }
+
+    fn compare_logs(&mut self, first: &mut [u8], second: &mut [u8], memory: &mut Memory) -> u32 {
+        match log::compare(first, second) {
+            Ok(None) => 0,
+            Ok(Some(place)) => {
+                memory.set_place(place);
+                PART
+            }
+            Err(number) => u32::from(number),
+        }
     }
 }

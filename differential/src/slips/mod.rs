@@ -1,6 +1,7 @@
 //! Versions that are wrong on purpose, each by one slip: the tests must find out every one of them.
 
 mod blocks;
+mod log;
 mod model;
 mod names;
 mod policy;
@@ -39,5 +40,13 @@ impl Version for Slipped {
             Call::Round(p) => self.call_round(policy, p, memory),
         };
         answer.unwrap_or_else(refusal_reply)
+    }
+
+    fn log_record(&mut self, p: u16, reply: u32, session: &mut Memory, memory: &mut Memory) -> u32 {
+        self.record(p, reply, session.session(), memory)
+    }
+
+    fn compare_logs(&mut self, first: &mut [u8], second: &mut [u8], memory: &mut Memory) -> u32 {
+        self.compare(first, second, memory)
     }
 }

@@ -59,6 +59,31 @@ pub enum Slip {
     LowEight,
     FewInOrder,
     FourMembers,
+    CountBefore,
+    LogBigEndian,
+    RefusedLogged,
+    NothingAskedLogged,
+    ReplyCut,
+    AllShown,
+    RecordCleared,
+    Prefix,
+    ElevenFirst,
+    SecondFirst,
+    AnswerZero,
+    AnswerFour,
+    FirstPad,
+    SecondPad,
+    AskNothing,
+    GrantAsks,
+    DenyAsks,
+    AnswerAlone,
+    AskedAlone,
+    LowByte,
+    FromOne,
+    LastUncompared,
+    CountCompared,
+    ShownCompared,
+    PlaceCleared,
 }
 
 /// The same code with nothing wrong in it, its candidates sorted, and by blocks.
@@ -68,7 +93,7 @@ pub const CONTROLS: [(Slip, &str); 2] = [
 ];
 
 /// Each slip with what is wrong.
-pub const SLIPS: [(Slip, &str); 55] = [
+pub const SLIPS: [(Slip, &str); 80] = [
     (
         Slip::BreachUnread,
         "grants on the service alone, the breach mark unread",
@@ -210,6 +235,61 @@ pub const SLIPS: [(Slip, &str); 55] = [
     (
         Slip::FourMembers,
         "four members taken as few, the fourth never tried",
+    ),
+    (
+        Slip::CountBefore,
+        "log record: the count of the round before",
+    ),
+    (Slip::LogBigEndian, "log record: sets big-endian"),
+    (Slip::RefusedLogged, "log record: refused rounds logged too"),
+    (
+        Slip::NothingAskedLogged,
+        "log record: a question for nothing logged too",
+    ),
+    (Slip::ReplyCut, "log record: the reply cut to 16 bits"),
+    (
+        Slip::AllShown,
+        "log record: the session's shown set, not the round's",
+    ),
+    (
+        Slip::RecordCleared,
+        "log record: the bytes cleared where there is no record",
+    ),
+    (
+        Slip::Prefix,
+        "logs: the shorter log's end counts for nothing",
+    ),
+    (Slip::ElevenFirst, "logs: 11 tested before 10"),
+    (Slip::SecondFirst, "logs: the second log tested first"),
+    (Slip::AnswerZero, "logs: answer 0 accepted"),
+    (Slip::AnswerFour, "logs: answer 4 accepted"),
+    (Slip::FirstPad, "logs: the first pad byte unread"),
+    (Slip::SecondPad, "logs: the second pad byte unread"),
+    (Slip::AskNothing, "logs: 3 with an empty set accepted"),
+    (Slip::GrantAsks, "logs: 1 with a set accepted"),
+    (Slip::DenyAsks, "logs: 2 with a set accepted"),
+    (Slip::AnswerAlone, "logs: agreement by answer alone"),
+    (Slip::AskedAlone, "logs: agreement by asked set alone"),
+    (
+        Slip::LowByte,
+        "logs: agreement by answer and the asked set's low byte",
+    ),
+    (Slip::FromOne, "logs: records counted from 1"),
+    (
+        Slip::LastUncompared,
+        "logs: the last record that both have not compared",
+    ),
+    (
+        Slip::CountCompared,
+        "logs: agreement looks at the count too",
+    ),
+    (
+        Slip::ShownCompared,
+        "logs: agreement looks at the shown set too",
+    ),
+    (
+        Slip::PlaceCleared,
+        "logs: the record's number cleared where they do not part",
     ),
 ];
 

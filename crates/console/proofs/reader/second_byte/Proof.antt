@@ -9,7 +9,7 @@ record-requires : tie.Need-record-requires
 record-requires c κs = search needs
 
 returns : tie.Need-returns
-returns c = record { step = ap wholeStep (c .before .«record» .ensures .step); whole = c .before .«record» .ensures .whole }
+returns c = ap wholeStep (c .«record» .ensures)
 
 pub second-byte-spec : {M : Type 1} → statement M
 second-byte-spec = tie.close (tie.spec record-requires returns)

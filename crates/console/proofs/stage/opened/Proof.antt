@@ -7,34 +7,18 @@ use Rattle.console.proofs.stage.opened.Tie as tie
 enum-known-opened : tie.Need-enum-known-opened
 enum-known-opened c = search needs
 
-empty-requires : tie.Need-empty-requires
-empty-requires c κs = search needs
-
 enum-known-opened-2 : tie.Need-enum-known-opened-2
 enum-known-opened-2 c = search needs
-
-of-refusal-requires : tie.Need-of-refusal-requires
-of-refusal-requires c κs = search needs
 
 ended-requires : tie.Need-ended-requires
 ended-requires c κs = search needs
 
 returns : tie.Need-returns
-returns c =
-    let line = c .empty .ensures in
-    rw (c .before .before .opened .given .1) (record { step = rw (line .text) refl; whole = line .room })
+returns c = rw (c .before .opened .given .1) refl
 
 returns-2 : tie.Need-returns-2
-returns-2 c = rw (c .before .before .before .opened2 .given .1, ← c .before .of-refusal .ensures .text) (c .ended .ensures)
+returns-2 c = rw (c .before .before .opened2 .given .1) (c .ended .ensures)
 
 pub opened-spec : {M : Type 1} → statement M
 opened-spec =
-    tie.close
-    (tie.spec
-    enum-known-opened
-    empty-requires
-    enum-known-opened-2
-    of-refusal-requires
-    ended-requires
-    returns
-    returns-2)
+    tie.close (tie.spec enum-known-opened enum-known-opened-2 ended-requires returns returns-2)

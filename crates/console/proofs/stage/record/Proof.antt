@@ -19,9 +19,6 @@ round-requires c κs = search needs
 enum-told-2 : tie.Need-enum-told-2
 enum-told-2 c = search needs
 
-empty-requires : tie.Need-empty-requires
-empty-requires c κs = search needs
-
 ended-requires : tie.Need-ended-requires
 ended-requires c κs = search needs
 
@@ -35,7 +32,7 @@ returns-2 c = rw (c .before .before .stage .given .1) (c .round .ensures)
 
 returns-3 : tie.Need-returns-3
 unfolding recordStep
-returns-3 c = rw (c .before .before .enum-told2 .given .1, ← c .before .empty .ensures .text) (c .ended .ensures)
+returns-3 c = rw (c .before .enum-told2 .given .1) (c .ended .ensures)
 
 pub record-spec : {M : Type 1} → statement M
 record-spec =
@@ -46,7 +43,6 @@ record-spec =
     enum-known-stage
     round-requires
     enum-told-2
-    empty-requires
     ended-requires
     returns
     returns-2

@@ -29,18 +29,15 @@ returns c =
     let e : policyRefusal bytes ≡ none = sym (c .before .before .before .before .check .ensures .0) ∙ ap checkedOf (c .before .before .enum-told .given .1) in
     rw (e, ← c .before .«open» .ensures .0) (c .opened .ensures)
 
-of-refused-policy-requires : tie.Need-of-refused-policy-requires
-of-refused-policy-requires c κs = search needs
-
 ended-requires : tie.Need-ended-requires
 ended-requires c κs = search needs
 
 returns-2 : tie.Need-returns-2
 returns-2 c =
-    let bytes = now (c .before .before .before .before .before .before .before .args .policy) in
-    let told = c .before .before .before .checked .given in
-    let e : policyRefusal bytes ≡ some (refusalOf (told .0 .0)) = sym (c .before .before .before .before .before .check .ensures .0) ∙ ap checkedOf (told .1) in
-    rw (e, ← c .before .of-refused-policy .ensures .text) (c .ended .ensures)
+    let bytes = now (c .before .before .before .before .before .before .args .policy) in
+    let told = c .before .before .checked .given in
+    let e : policyRefusal bytes ≡ some (refusalOf (told .0 .0)) = sym (c .before .before .before .before .check .ensures .0) ∙ ap checkedOf (told .1) in
+    rw e (c .ended .ensures)
 
 pub request-spec : {M : Type 1} → statement M
 request-spec =
@@ -52,6 +49,5 @@ request-spec =
     open-requires
     opened-requires
     returns
-    of-refused-policy-requires
     ended-requires
     returns-2)

@@ -7,13 +7,8 @@ use Rattle.console.proofs.stage.round.Tie as tie
 round-requires : tie.Need-round-requires
 round-requires c κs = search needs
 
-of-round-requires : tie.Need-of-round-requires
-of-round-requires c κs = search needs
-
 returns : tie.Need-returns
-returns c =
-    let line = c .of-round .ensures in
-    rw (← c .before .before .round .ensures .0) (record { step = rw (line .text) refl; whole = line .room })
+returns c = rw (← c .before .round .ensures .0) refl
 
 pub round-spec : {M : Type 1} → statement M
-round-spec = tie.close (tie.spec round-requires of-round-requires returns)
+round-spec = tie.close (tie.spec round-requires returns)

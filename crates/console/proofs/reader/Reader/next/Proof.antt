@@ -28,7 +28,7 @@ second-byte-requires c κs = search needs
 
 returns : tie.Need-returns
 unfolding byteStep
-returns c = (rw (c .before .enum-told .given .1) (c .first-byte .ensures .step), (c .first-byte .ensures .whole, refl))
+returns c = (rw (c .before .enum-told .given .1) (c .first-byte .ensures), refl)
 
 returns-2 : tie.Need-returns-2
 unfolding byteStep
@@ -36,10 +36,8 @@ returns-2 c =
     let a = c .before .before .before .before .before .before .args in
     let low = c .before .before .before .half .given .0 .0 in
     let e : c .before .number .result ≡ littleEndian (low ∷ a .byte ∷ []) = c .before .number .ensures in
-    let step : ℕ → S.Step = λ n. wholeStep (recordStep (now (a .policy)) (stageOf (a .self .stage)) n) in (
-      rw (c .before .before .before .half .given .1) (c .second-byte .ensures .step ∙ ap step e),
-      (c .second-byte .ensures .whole, refl),
-    )
+    let step : ℕ → S.Step = λ n. wholeStep (recordStep (now (a .policy)) (stageOf (a .self .stage)) n) in
+    (rw (c .before .before .before .half .given .1) (c .second-byte .ensures ∙ ap step e), refl)
 
 pub next-spec : {M : Type 1} → statement M
 next-spec =

@@ -1,0 +1,3 @@
+-- What the flag says, and the theorems.
+pub mod FlagLaws
+pub mod TheoremsProof

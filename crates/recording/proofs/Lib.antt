@@ -1,0 +1,3 @@
+-- What is written of an event, and the theorems.
+pub mod WrittenLaws
+pub mod TheoremsProof
