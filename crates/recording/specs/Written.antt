@@ -1,17 +1,26 @@
 -- What is written of the program's own records and lines, one call after another. Assumes nothing.
 use mathlib.Core.Path.{_≡_}
-use mathlib.Core.List.{List, flatMap, map}
+use mathlib.Core.List.{List, [], _∷_, flatMap, map}
+use mathlib.Core.Option.{Option, none}
 use Prim.Native.Nat.{ℕ}
 use Rattle.lists.specs.Lists.{Every}
 use Rattle.lists.specs.Runs.{Turn}
+use Rattle.transcript.specs.Events.{Event, played, unopened}
 use Rattle.console.specs.Steps.{eventsOf}
 use Rattle.console.specs.declared.reader.Step.{Step}
 use Rattle.lines.specs.Lines.{Prints, textOf}
 use Rattle.lines.specs.declared.line.Line.{Line}
+use Rattle.session_logs.specs.RoundRecords.{roundRecord}
 use Rattle.session_logs.specs.SessionLogs.{bytesIn}
 use Rattle.recorder.specs.Types.{recordIn}
 use Rattle.recorder.specs.declared.Logged.{Logged}
 use Rattle.recording.specs.Recording.{logged, noticed}
+
+-- the record of what an event tells, if there is one
+abbrev pub recordTold : List Event → Option (List ℕ)
+recordTold [] = none
+recordTold (unopened f ∷ es) = none
+recordTold (played m o ∷ es) = roundRecord m o
 
 -- its bytes if there is a record, else nothing
 abbrev pub writtenOf : Logged → List ℕ

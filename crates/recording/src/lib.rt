@@ -2,15 +2,17 @@
 ghost use mathlib.Core.Path.{_≡_};
 ghost use Rattle.console.specs.Steps.{eventsOf};
 ghost use Rattle.lines.specs.Lines.{Prints};
+ghost use Rattle.recorder.specs.Types.{flagged, loggedOf};
 ghost use Rattle.recording.specs.Recording.{logged, noticed};
-ghost use Rattle.recording.specs.Written.{writtenOf};
+ghost use Rattle.recording.specs.Written.{recordTold, writtenOf};
 use console::event::Event;
 use lines::line::Line;
 use recorder::Logged;
 
 // The record, if there is one.
 pub fn record(event: Event) -> Logged
-    ensures { λ r. ⌜ writtenOf r ≡ logged (eventsOf event) ⌝ }
+    ensures answer { λ r. ⌜ loggedOf r ≡ flagged (recordTold (eventsOf event)) ⌝ }
+    ensures written { λ r. ⌜ writtenOf r ≡ logged (eventsOf event) ⌝ }
 {
     match event {
         Event::Nothing => recorder::nothing(),

@@ -29,18 +29,18 @@ of-round-requires c κs = search needs
 
 returns : tie.Need-returns
 unfolding logged flatMap
-returns c = rw (c .before .enum-told .given .1) (recorded _ none (c .nothing .ensures))
+returns c = rw (c .before .enum-told .given .1) (c .nothing .ensures, recorded _ none (c .nothing .ensures))
 
 returns-2 : tie.Need-returns-2
 unfolding logged flatMap
-returns-2 c = rw (c .before .enum-told2 .given .1) (recorded _ none (c .nothing2 .ensures))
+returns-2 c = rw (c .before .enum-told2 .given .1) (c .nothing2 .ensures, recorded _ none (c .nothing2 .ensures))
 
 returns-3 : tie.Need-returns-3
 returns-3 c =
     let told = c .before .before .event .given in
     let m = moveOf (told .0 .0) in
     let o = outcomeOf (told .0 .1 .0) in
-    rw (told .1, one-played m o) (recorded _ (roundRecord m o) (c .of-round .ensures .0))
+    rw (told .1, one-played m o) (c .of-round .ensures .0, recorded _ (roundRecord m o) (c .of-round .ensures .0))
 
 pub record-spec : {M : Type 1} → statement M
 record-spec =

@@ -1,5 +1,5 @@
 -- `entries::Entry::is_sound` meets its contract: the pad, then one case for each answer. Assumes nothing.
-use mathlib.Core.Path.{sym}
+use mathlib.Core.Path.{_≡_, sym}
 use borrow.Author.Tests.{eq-eqb}
 use native.Mathlib.Omega.{arith}
 use Rattle.validation.proofs.TestLaws.{T-true, not-T-false}
@@ -16,15 +16,21 @@ returns c =
 
 returns-2 : tie.Need-returns-2
 unfolding isSoundEntry
-returns-2 c = simp (c .before .match .keys1, eq-eqb _ 0 (c .before .before .if1 .left))
+returns-2 c =
+    let pad : c .before .before .before .before .args .self .pad ≡ 0 = c .before .before .if1 .left in
+    simp (c .before .match .keys1, eq-eqb _ 0 pad)
 
 returns-3 : tie.Need-returns-3
 unfolding isSoundEntry
-returns-3 c = simp (c .before .match .keys2, eq-eqb _ 0 (c .before .before .if1 .left))
+returns-3 c =
+    let pad : c .before .before .before .before .args .self .pad ≡ 0 = c .before .before .if1 .left in
+    simp (c .before .match .keys2, eq-eqb _ 0 pad)
 
 returns-4 : tie.Need-returns-4
 unfolding isSoundEntry
-returns-4 c = simp (c .before .match .keys3, eq-eqb _ 0 (c .before .before .if1 .left))
+returns-4 c =
+    let pad : c .before .before .before .before .args .self .pad ≡ 0 = c .before .before .if1 .left in
+    simp (c .before .match .keys3, eq-eqb _ 0 pad)
 
 returns-5 : tie.Need-returns-5
 returns-5 c =
