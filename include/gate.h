@@ -7,7 +7,7 @@
  * or has a state of its own.
  *
  * For a watchdog: a round tries at most 65,535 sets of credentials, and no other function tries any. The deepest stack
- * below the caller was measured as 16,128 bytes in a round, 6,688 for the model and less for the others (docs/PERFORMANCE.md).
+ * below the caller was measured as 16,160 bytes in a round, 6,688 for the model and less for the others (docs/PERFORMANCE.md).
  *
  * The caller owes what C cannot show: pointers that are not null (also where a length is 0), aligned for their type, to
  * memory that is there and has been written before; no overlap of what one call writes with anything else that it is
@@ -53,26 +53,28 @@ enum { GATE_FRESH = 0, GATE_WAITING = 1, GATE_GRANTED = 2, GATE_DENIED = 3 };
 /* A reply is a number. Bytes that are not named here are 0.
  *
  *   0                   nothing is refused, and there is no more to say; never of a round
- *   byte 0 is not 0     refused with that number, 1 to 11; with 1 to 6 byte 1 is the number of the policy's record
+ *   byte 0 is not 0     refused with that number, 1 to 13; with 1 to 6, 12 and 13, the policy's, byte 1 is the
+ *                       number of its record
  *   byte 0 is 0         a round, not refused: byte 1 is 1 for grant, 2 for deny, 3 for a question; the set asked for is
  *                       GATE_ASKED of the session that the round leaves
  *                       two logs that part: byte 1 is 4
  *
  * Every function but gate_log_record gives a reply; that one gives a number of bytes. */
 #define GATE_REFUSAL(reply) ((uint32_t)(reply) & 0xff)
-#define GATE_RECORD(reply) ((uint32_t)(reply) >> 8 & 0xff) /* of a refusal, 1 to 6 */
+#define GATE_RECORD(reply) ((uint32_t)(reply) >> 8 & 0xff) /* of a refusal of the policy */
 #define GATE_ENDING(reply) ((uint32_t)(reply) >> 8 & 0xff) /* of a round or a comparison that is not refused */
 
 enum { GATE_GRANT = 1, GATE_DENY = 2, GATE_ASK = 3, GATE_PART = 4 };
 
-/* The policy's test: 0 exactly where the policy is of the written form, else its refusal, 1 to 6. */
+/* The policy's test: 0 exactly where the policy is of the written form, else its refusal, 1 to 6, 12 or 13. */
 uint32_t gate_check(const uint8_t *policy, size_t length);
 
 /* The model of the access rules and a set of credentials: 0, and the model in *set, bit k for atom k; or the policy's
- * refusal, 1 to 6, and *set as it was. */
+ * refusal, 1 to 6, 12 or 13, and *set as it was. */
 uint32_t gate_model(const uint8_t *policy, size_t length, uint16_t credentials, uint64_t *set);
 
-/* The disclosable set of what is shown: 0, and the set in *set; or the policy's refusal, 1 to 6, and *set as it was. */
+/* The disclosable set of what is shown: 0, and the set in *set; or the policy's refusal, 1 to 6, 12 or 13, and
+ * *set as it was. */
 uint32_t gate_disclosable(const uint8_t *policy, size_t length, uint16_t shown, uint16_t *set);
 
 /* Opening: 0, and a fresh session for the request in *session; or 7, where the request is not 16 to 62, and *session as it
@@ -80,8 +82,8 @@ uint32_t gate_disclosable(const uint8_t *policy, size_t length, uint16_t shown, 
 uint32_t gate_open(uint16_t request, gate_session *session);
 
 /* A round in which a set of credentials is shown: grant, deny or a question, and the next session in *session; or the first
- * refusal that applies, and *session as it was: 1 to 6 for the policy; 8 where the ten bytes are no session (a phase above
- * 3, or something asked for in a session that is not waiting); 7 for its request; 8 where it is not sound; 9 where it is
+ * refusal that applies, and *session as it was: 1 to 6, 12 or 13 for the policy; 8 where the ten bytes are no session (a phase
+ * above 3, or something asked for in a session that is not waiting); 7 for its request; 8 where it is not sound; 9 where it is
  * closed. */
 uint32_t gate_round(const uint8_t *policy, size_t length, gate_session *session, uint16_t shown);
 

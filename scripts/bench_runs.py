@@ -100,7 +100,7 @@ def only_ends(process, run):
 def split_runs(runs):
     """In two pieces, split at each place."""
     odd = "odd byte ff after closing", "odd byte ff after a refused request"
-    for name in ("(a) the three rounds", "(f) 17 if not 24", "(j) policy B", "ties", *odd):
+    for name in ("(a) the three rounds", "(f) 17 if not 24", "(j) policy B", "ties", "weights: 2 and 3 weigh 3", *odd):
         run = runs[name]
         for at in range(1, len(run.input)):
             yield f"{name}, split at {at}", run, in_pieces(run.input[:at], run.input[at:])
@@ -108,8 +108,9 @@ def split_runs(runs):
 
 def trickled_runs(runs):
     """A byte at a time, and in pieces that end at odd places."""
-    chosen = [name for name in runs if name.startswith(("(", "odd byte ff", "one byte ff"))]
-    for name in (*chosen, "ties", "17 rounds, all declined", "request 272, three records after it", "3 at record 0, 35 bytes"):
+    chosen = [name for name in runs if name.startswith(("(", "odd byte ff", "one byte ff", "weights: p"))]
+    refused = "request 272, three records after it", "3 at record 0, 35 bytes", "12 and 13 at record 1"
+    for name in (*chosen, "ties", "17 rounds, all declined", *refused):
         run = runs[name]
         yield f"{name}, a byte at a time", run, in_pieces(*(bytes([byte]) for byte in run.input))
         odd = [run.input[:1], *(run.input[at : at + 2] for at in range(1, len(run.input), 2))]
@@ -118,7 +119,7 @@ def trickled_runs(runs):
 
 def answered_runs(runs):
     """Each line before the next record."""
-    chosen = [name for name in runs if name.startswith(("(", "twenty", "17 rounds", "random policy 1"))]
+    chosen = [name for name in runs if name.startswith(("(", "twenty", "17 rounds", "random policy 1", "weights"))]
     for name in (*chosen, "ties", "2305 bytes", "request 272, three records after it", "request 15, policy refused too"):
         yield f"{name}, line by line", runs[name], line_by_line
 

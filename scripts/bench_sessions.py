@@ -1,6 +1,6 @@
-"""Runs of the bench program: a policy file, the input, and what has to be printed, from document 01 and not from our code.
+"""Runs of the bench program: a policy file, the input, and what has to be printed, from documents 01 and 02 and not from our code.
 
-Refusals and the marked cases are written by hand; the other lines are worked out by rounds.py.
+Refusals, the marked cases and the first sessions with weights are written by hand; the other lines are worked out by rounds.py.
 """
 import collections
 import contextlib
@@ -10,7 +10,7 @@ import struct
 import threading
 import time
 
-from rounds import EMPTY, POLICY_A, Session, accepted_round, credentials, encoded
+from rounds import EMPTY, POLICY_A, Session, accepted_round, credentials, encoded, weight
 
 # policy: its bytes, or None where there is no file, or a function that makes it, given its path.
 Run = collections.namedtuple("Run", "name policy input printed")
@@ -82,7 +82,7 @@ def marked():
 
 # Each a record, and the refusal's number.
 BROKEN = [
-    *((3, (kind, 16, set(), set())) for kind in (0, 3, 255)),
+    *((3, (kind, 16, set(), set())) for kind in (0, 4, 255)),
     *((4, access(head)) for head in (0, 15, 64, 255)),
     *((4, disclosure(head)) for head in (16, 62, 63, 255)),
     *((5, access(head, [63])) for head in (16, 62, 63)),
@@ -91,11 +91,35 @@ BROKEN = [
     *((5, (2, 15, set(), {atom})) for atom in (0, 15, 16, 62, 63)),
     *((6, access(head, [atom])) for head, atom in ((16, 24), (55, 56), (23, 62))),
     *((6, access(head, negated=[atom])) for head, atom in ((16, 16), (17, 24), (62, 56))),
+    *((4, weight(head, 1)) for head in (16, 63, 255)),
+    *((12, weight(0, weighs)) for weighs in (16, 256, 1 << 32, 1 << 63, (1 << 64) - 1)),
+    *((12, weight(15, 15, [atom])) for atom in (0, 15, 16, 63)),
 ]
 
 
+def second_weights():
+    """Refusal 13 with its record number, and 12 before it."""
+    for first, second in ((0, 1), (0, 9), (9, 10), (1, 99), (99, 100), (0, 127), (126, 127)):
+        for weighs in (3, 4):
+            records = [ALWAYS_16] * 128
+            records[first], records[second] = weight(7, 3), weight(7, weighs)
+            name = f"7 weighs 3 at record {first}, {weighs} at record {second}"
+            yield by_hand(name, records, (16, 0, 1), f"refused 13 at {second}")
+    every = [weight(atom, 15 - atom) for atom in range(16)]
+    yield by_hand("sixteen weights", [ALWAYS_16, *every], (16, 0), "round 1 got 0000 grant")
+    yield by_hand("sixteen weights and one more", [*every, weight(0, 0)], (16, 0), "refused 13 at 16")
+    one, three = weight(0, 5), (4, 0, set(), set())
+    yield by_hand("13 at record 1, 3 at record 2", [one, one, three], (16, 0), "refused 13 at 1")
+    yield by_hand("3 at record 1, 13 at record 2", [one, three, one], (16, 0), "refused 3 at 1")
+    yield by_hand("12 and 13 at record 1", [one, weight(0, 16)], (16, 0), "refused 12 at 1")
+    yield by_hand("13 at record 1, request 15", [one, one], (15, 0), "refused 13 at 1")
+    yield by_hand("12 at record 0, request 15", [weight(0, 16)], (15, 0), "refused 12 at 0")
+    yield by_hand("13 at record 1, 35 bytes", written([one, one])[:35], (16, 0), "refused 2 at 1")
+    yield by_hand("a weight and a disclosure of one credential", [one, disclosure(0)], (16, 0), "round 1 got 0000 deny")
+
+
 def policies_refused():
-    """Refusals 1 to 6, each with its record number; further records print nothing."""
+    """Refusals 1 to 6 and 12, each with its record number; further records print nothing."""
     for length in (1, 2, 17, 19, 35, 37, 180, 181, 1799, 1801, 2303):
         file = written([ALWAYS_16] * 128)[:length]
         lines = [f"refused 2 at {length // 18}"] if length % 18 else ["round 1 got 0000 grant"]
@@ -244,6 +268,26 @@ def several_rounds():
         yield by_definition(f"policy B, {first:04x} shown first", POLICY_B, 16, first, 0, 3)
 
 
+def weights():
+    """Sessions that weights decide."""
+    ways = [access(16, [0, 1]), access(16, [2]), access(16, [3]), *map(disclosure, range(4))]
+    fewest = "round 1 got 0000 ask 0004", "round 2 got 0000 ask 0008", "round 3 got 0000 ask 0003", "round 4 got 0000 deny"
+    lightest = "round 1 got 0000 ask 0003", "round 2 got 0000 ask 0004", "round 3 got 0000 ask 0008", "round 4 got 0000 deny"
+    yield by_hand("weights: none", ways, (16, 0, 0, 0, 0), *fewest)
+    yield by_hand("weights: 2 and 3 weigh 2", [*ways, weight(2, 2), weight(3, 2)], (16, 0, 0, 0, 0), *fewest)
+    yield by_hand("weights: 2 and 3 weigh 3", [*ways, weight(2, 3), weight(3, 3)], (16, 0, 0, 0, 0), *lightest)
+    yield by_hand("weights: the same, first", [weight(2, 3), weight(3, 3), *ways], (16, 0, 0, 0, 0, 1), *lightest, "refused 9")
+    nothing = [weight(3, 0), weight(5, 7), weight(15, 15)]
+    yield by_hand("weights: policy A, none of its own", POLICY_A + nothing, (16, *SHOWN_A), *ROUNDS_A)
+    turned = "round 1 got 0000 ask 0003", "round 2 got 0000 ask 0004", "round 3 got 0004 grant"
+    yield by_hand("weights: policy A, 2 weighs 3", [*POLICY_A, weight(2, 3)], (16, 0, 0, 4), *turned)
+    yield by_hand("weights: not disclosed", [access(16, [3]), weight(3, 0)], (16, 0, 8), "round 1 got 0000 deny", "refused 9")
+    single = [access(16, [atom]) for atom in range(16)] + list(map(disclosure, range(16)))
+    falling = [weight(atom, 15 - atom) for atom in range(16)]
+    lines = [f"round {k + 1} got 0000 ask {0x8000 >> k:04x}" for k in range(16)] + ["round 17 got 0000 deny"]
+    yield by_hand("weights: sixteen, all declined", single + falling, (16, *[0] * 17), *lines)
+
+
 def some_policy(source):
     """Six credentials, each askable, and rules on levels 2, 3 and 8."""
     records = [disclosure(atom, *source.sample(range(6), source.choice((0, 0, 1)))) for atom in range(6)]
@@ -255,18 +299,35 @@ def some_policy(source):
     return records
 
 
+def some_rounds(source):
+    return [source.choice((0, 0, source.getrandbits(6), source.getrandbits(6), source.getrandbits(16))) for _ in range(6)]
+
+
 def at_random():
     """Forty sessions from a fixed seed in which something is asked."""
     source, asked = random.Random(1), 0
     while asked < 40:
         records, request = some_policy(source), source.choice((16, 24))
-        shown = [source.choice((0, 0, source.getrandbits(6), source.getrandbits(6), source.getrandbits(16))) for _ in range(6)]
-        run = by_definition(f"random policy {asked}", records, request, *shown)
+        run = by_definition(f"random policy {asked}", records, request, *some_rounds(source))
         if "ask" in run.printed:
             asked += 1
             yield run
 
 
+def weighed_at_random():
+    """Forty more, in which weights change what is printed."""
+    source, changed = random.Random(2), 0
+    while changed < 40:
+        records, request, shown = some_policy(source), source.choice((16, 24)), some_rounds(source)
+        given = [weight(atom, source.choice((0, 1, 2, 3, 15))) for atom in source.sample(range(6), source.choice((1, 2, 4, 6)))]
+        mixed = source.sample(records + given, len(records + given))
+        run = by_definition(f"weights: random policy {changed}", mixed, request, *shown)
+        if run.printed != by_definition("without", records, request, *shown).printed:
+            changed += 1
+            yield run
+
+
 def runs():
-    for some in (marked, policies_refused, files, without_request, requests, odd_bytes, after_closing, several_rounds, at_random):
+    first = marked, policies_refused, second_weights, files, without_request, requests, odd_bytes, after_closing
+    for some in (*first, several_rounds, weights, at_random, weighed_at_random):
         yield from some()

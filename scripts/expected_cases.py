@@ -1,5 +1,5 @@
 #!/usr/bin/env python3
-"""The cases of the program `cases` and the answers to them, from document 01 and not from our code.
+"""The cases of the program `cases` and the answers to them, from documents 01 and 02 (R-2, weights) and not from our code.
 
     scripts/expected_cases.py            write crates/cases/stdin and crates/cases/stdout
     scripts/expected_cases.py --check    say whether these two files are what the script makes
@@ -17,9 +17,10 @@ stdin, for each case, with numbers of two bytes, little-endian:
     of a list: the request, how many rounds there are, four at most, and four numbers, what is shown in each round
 stdout: the line of each case, with the answer.
 
-The cases were chosen by wrong readings of document 01: every comparison of level, fault, tested, is_service, is_sound and refusal off by one
-either way, every clause dropped or turned round, every test before another, every edge of a range, a level or a length moved, one value let
-in or shut out. Each changes at least two lines, save those that say the same in other words, such as 9 for the level of 63.
+The cases were chosen by wrong readings of the papers: every comparison of level, fault, tested, is_service, is_sound and refusal off by one
+either way, every clause dropped or turned round, every test before another, every edge of a range, a level, a weight or a length moved, one
+value let in or shut out, weights read, added or compared otherwise. Each changes at least two lines, save those that say the same in other
+words, such as 9 for the level of 63.
 """
 import collections
 import itertools
@@ -27,7 +28,7 @@ import re
 import struct
 import sys
 
-from rounds import POLICY_A, Session, accepted_round, credentials, encoded, is_service, number, refusal
+from rounds import POLICY_A, Session, accepted_round, atoms_of, credentials, encoded, is_service, number, refusal, weight
 from stored import stored
 
 Case = collections.namedtuple("Case", "asked name policy session shown said")
@@ -49,6 +50,29 @@ kind 0 head 0
 kind 3 head 0
 kind 255 head 0
 kind 255 head 63 if 62
+kind 4 head 0
+kind 4 head 16
+kind 4 head 0 weight 1
+kind 4 head 15 weight 16
+kind 4 head 255 if 63 not 63
+kind 128 head 0
+kind 130 head 0
+kind 131 head 0
+kind 131 head 15 weight 1
+"Kind 3 passes 3, has heads 0 to 15 by 4"
+kind 3 head 15
+kind 3 head 15 weight 15
+kind 3 head 16 weight 1
+kind 3 head 17
+kind 3 head 31 weight 15
+kind 3 head 32
+kind 3 head 62 weight 1
+kind 3 head 63
+kind 3 head 64
+kind 3 head 128
+kind 3 head 255 weight 1
+kind 3 head 7
+kind 3 head 8 weight 8
 "An access head is 16 to 63."
 kind 1 head 15
 kind 1 head 16
@@ -157,6 +181,30 @@ kind 1 head 62 not 55
 kind 1 head 62 not 56
 kind 1 head 63 if 56
 kind 1 head 63 not 56
+"12, weight above 15 or negated set not empty"
+kind 3 head 0 weight 1 not 0
+kind 3 head 0 weight 1 not 1
+kind 3 head 15 weight 15 not 15
+kind 3 head 15 weight 15 not 63
+kind 3 head 0 weight 16 not 0
+kind 3 head 0 weight 16 not 63
+kind 3 head 15 weight 9223372036854775808 not 63
+"is tested by 12 and 13 instead of 5 and 6"
+kind 3 head 0 if 0
+kind 3 head 0 if 3
+kind 3 head 0 if 4
+kind 3 head 15 if 0 if 1 if 2 if 3
+kind 3 head 0 if 15
+kind 3 head 0 if 16
+kind 3 head 0 if 62
+kind 3 head 0 if 63
+kind 3 head 15 if 63
+kind 3 head 0 if 0 if 63
+kind 3 head 0 if 8
+kind 3 head 7 if 8
+kind 3 head 0 if 63 not 63
+kind 3 head 15 if 16 not 16
+kind 3 head 0 if 24 not 24
 "Only the first that applies is given, in number order"
 kind 0 head 255 if 63 not 63
 kind 1 head 15 if 63
@@ -174,6 +222,11 @@ kind 2 head 16 not 0
 kind 2 head 63 not 63
 kind 1 head 62 if 63 not 62
 kind 1 head 16 if 24 not 63
+kind 3 head 16 weight 16
+kind 3 head 16 weight 16 not 63
+kind 3 head 63 not 0
+kind 3 head 64 weight 9223372036854775808
+kind 3 head 255 weight 16
 """
 
 
@@ -181,10 +234,12 @@ def level(atom):
     return 8 if atom == 63 else atom // 8
 
 
-def fault(kind, head, positive, negated):
-    """The number of the first of 3 to 6 that a record breaks, or None."""
-    if kind not in (1, 2):
+def fault(kind, head, positive, negated, earlier):
+    """The number of the first of 3 to 6, 12 and 13 that a record breaks, or None."""
+    if kind not in (1, 2, 3):
         return 3
+    if kind == 3:
+        return 4 if head > 15 else weight_fault(head, positive, negated, earlier)
     if kind == 1:
         if not 16 <= head <= 63:
             return 4
@@ -200,6 +255,13 @@ def fault(kind, head, positive, negated):
     return None
 
 
+def weight_fault(head, positive, negated, earlier):
+    """12 or 13 of a record of kind 3, after the earlier ones, or None."""
+    if number(positive) > 15 or negated:
+        return 12
+    return 13 if any(record[:2] == (3, head) for record in earlier) else None
+
+
 def tested(policy):
     """What the policy's test says."""
     if policy.length > 2304:
@@ -208,7 +270,7 @@ def tested(policy):
     if rest:
         return f"refused 2 at {count}"
     for place, record in enumerate(policy.records[:count]):
-        broken = fault(*record)
+        broken = fault(*record, policy.records[:place])
         if broken:
             return f"refused {broken} at {place}"
     return "accepted"
@@ -306,11 +368,21 @@ def level_edges():
             yield f"kind 1 head {head} {word} {atom}"
 
 
+def weight_edges():
+    """Each weight alone, and each negated atom alone, at the edges of what is read of a number and on both sides of 15."""
+    low = 0, 1, 7, 8, 13, 14, 15, 16, 17, 30, 31, 32, 63, 64, 127, 128, 255
+    high = [(1 << bit) + more for bit, more in itertools.product((8, 15, 16, 31, 32, 48, 56, 62, 63), (-1, 0, 1, 15))]
+    for head, weighs in itertools.product((0, 15), (*low, *high, (1 << 64) - 1)):
+        yield f"kind 3 head {head} weight {weighs}"
+    for head, atom in itertools.product((0, 15), (0, 1, 3, 7, 8, 14, 15, 16, 17, 31, 32, 55, 56, 62, 63)):
+        yield f"kind 3 head {head} not {atom}"
+
+
 def one_record():
-    for name in dict.fromkeys([*re.findall("^kind.*", ONE_RECORD, re.M), *level_edges()]):
+    for name in dict.fromkeys([*re.findall("^kind.*", ONE_RECORD, re.M), *level_edges(), *weight_edges()]):
         kind, head = map(int, re.match(r"kind (\d+) head (\d+)", name).groups())
-        positive, negated = (set(map(int, re.findall(rf"{word} (\d+)", name))) for word in ("if", "not"))
-        yield test(name, 18, [(kind, head, positive, negated)])
+        positive, weighs, negated = (set(map(int, re.findall(rf"{word} (\d+)", name))) for word in ("if", "weight", "not"))
+        yield test(name, 18, [(kind, head, positive.union(*map(atoms_of, weighs)), negated)])
 
 
 def policies():
@@ -328,15 +400,87 @@ def policies():
     yield test("62 if 16, not 15, not 56", 18, [(1, 62, {16}, {15, 56})])
 
 
+def weighed(head, *numbers):
+    """Records that give one credential these weights."""
+    return [weight(head, each) for each in numbers]
+
+
+def second_weights():
+    """"13, a second weight for one credential, even by an equal record come twice"."""
+    for one, other in ((5, 5), (5, 6), (6, 5), (1, 1), (0, 0), (0, 1), (1, 0), (0, 15), (15, 15), (15, 0)):
+        yield test(f"0 weighs {one}, then {other}", 36, weighed(0, one, other))
+    for head in range(16):
+        yield test(f"{head} weighs 1 twice", 36, weighed(head, 1, 1))
+        others = [head ^ 1, head ^ 2, head ^ 4, head ^ 8]
+        yield test(f"{head} weighs 3, and so do {others}", 90, [weight(each, 3) for each in (head, *others)])
+    between = [ALWAYS_16, always(0), weight(1, 5), access(63, 0, 1), weight(15, 5)]
+    for many in range(1, 6):
+        yield test(f"0 weighs 5, {many} other records, 5", 18 * many + 36, [weight(0, 5), *between[:many], weight(0, 5)])
+        yield test(f"0 weighs 5, {many} other records, 4", 18 * many + 36, [weight(0, 5), *between[:many], weight(0, 4)])
+    yield test("0 weighs 5 in three records", 54, weighed(0, 5, 5, 5))
+    yield test("weights of 0, 1, 1, 0", 72, [weight(head, 2) for head in (0, 1, 1, 0)])
+    yield test("weights of 0, 1, 0, 1", 72, [weight(head, 2) for head in (0, 1, 0, 1)])
+    yield test("weights of 1, 0, 2, 0, 1", 90, [weight(head, head) for head in (1, 0, 2, 0, 1)])
+    yield test("two weights, disclosure between", 54, [weight(3, 1), always(3), weight(2, 1)])
+    yield test("disclosure twice, one weight", 54, [always(3), weight(3, 1), always(3)])
+    yield test("disclosure twice before a weight", 54, [always(3), always(3), weight(3, 1)])
+    yield test("an access rule of 16, weights of 0 and 1", 54, [ALWAYS_16, weight(0, 0), weight(1, 0)])
+
+
+def sixteen_weights():
+    every = [weight(head, 15 - head) for head in range(16)]
+    yield test("sixteen weights", 288, every)
+    yield test("sixteen weights, the last first", 288, every[::-1])
+    yield test("sixteen weights of 15", 288, [weight(head, 15) for head in range(16)])
+    for head in range(16):
+        yield test(f"sixteen weights, and {head} again", 306, [*every, weight(head, 15 - head)])
+        yield test(f"sixteen weights, {head} changed, and another kind", 324, [*every, weight(head, head), (4, 0, set(), set())])
+    for first, second in ((0, 127), (0, 126), (63, 64), (126, 127), (1, 100), (15, 31), (0, 64)):
+        records = [weight(9, 4) if place in (first, second) else ALWAYS_16 for place in range(128)]
+        yield test(f"9 weighs 4 at records {first} and {second}", 2304, records)
+        yield test(f"9 weighs 4 at record {first}, 5 at record {second}", 2304, [*records[:second], weight(9, 5), *records[second + 1 :]])
+        yield test(f"9 weighs 4 at records {first} and {second}, cut short", 18 * second, records)
+        yield test(f"9 weighs 4 at records {first} and {second}, a byte less", 18 * second + 17, records)
+
+
+def weights_in_turn():
+    """12 and 13 beside each other and beside the other refusals."""
+    one = weight(0, 5)
+    for name, other in (("16", weight(0, 16)), ("5 and negates 0", weight(0, 5, [0])), ("5 and negates 63", weight(0, 5, [63]))):
+        yield test(f"0 weighs 5, then {name}", 36, [one, other])
+        yield test(f"0 weighs {name}, then 5", 36, [other, one])
+        yield test(f"0 weighs 5, then {name}, then 5", 54, [one, other, one])
+        yield test(f"0 weighs 5, then 5, then {name}", 54, [one, one, other])
+        yield test(f"0 weighs {name} twice", 36, [other, other])
+    yield test("16 weighs 5 twice", 36, weighed(16, 5, 5))
+    yield test("0 and 16 weigh 5", 36, [one, weight(16, 5)])
+    yield test("16 and 0 weigh 5", 36, [weight(16, 5), one])
+    yield test("0 weighs 5, 16 weighs 16", 36, [one, weight(16, 16)])
+    others = {3: (4, 0, set(), set()), 4: weight(16, 5), 5: access(16, 63), 6: access(16, 24), 12: weight(1, 16)}
+    for broken, record in others.items():
+        yield test(f"{broken} at record 1, 13 at record 2", 54, [one, record, one])
+        yield test(f"13 at record 1, {broken} at record 2", 54, [one, one, record])
+        yield test(f"13 at record 2, {broken} at record 3", 72, [one, ALWAYS_16, one, record])
+        yield test(f"{broken} at record 0, 13 at record 2", 54, [record, one, one])
+    for length in (35, 37, 53):
+        yield test(f"13 at record 1, {length} bytes", length, [one, one, one])
+    yield test("13 at record 127, 2304 bytes", 2304, [ALWAYS_16] * 126 + [one, one])
+    yield test("13 at record 127, 2303 bytes", 2303, [ALWAYS_16] * 126 + [one, one])
+    for length in (2305, 2322):
+        yield test(f"13 at record 1, {length} bytes", length, [one, one] + [ALWAYS_16] * 127)
+        yield test(f"12 at record 1, {length} bytes", length, [one, weight(1, 16)] + [ALWAYS_16] * 127)
+    yield test("13 at record 128, 2322 bytes", 2322, [ALWAYS_16] * 127 + [one, one])
+
+
 def records_in_turn():
-    three, six = (3, 16, set(), set()), (1, 17, set(), {24})
+    three, six = (4, 16, set(), set()), (1, 17, set(), {24})
     last = [ALWAYS_16] * 125 + [three, ALWAYS_16]
     yield test("3 at record 127", 2304, [ALWAYS_16, ALWAYS_16, *last])
     yield test("3 at records 1 and 127", 2304, [ALWAYS_16, three, *last])
     yield test("6 at record 0, 3 at record 1", 2304, [six, three, *last])
     yield test("the same, cut short", 2303, [six, three, *last])
     yield test("the same, too long", 2305, [six, three, *last])
-    faults = {3: three, 4: (2, 16, set(), set()), 5: (2, 0, set(), {16}), 6: six}
+    faults = {3: three, 4: (2, 16, set(), set()), 5: (2, 0, set(), {16}), 6: six, 12: weight(0, 16)}
     for (first, one), (second, other) in itertools.combinations(faults.items(), 2):
         yield test(f"{second} at record 0, {first} at record 1, 36 bytes", 36, [other, one])
         yield test(f"{first} at record 0, {second} at record 1, 36 bytes", 36, [one, other])
@@ -428,7 +572,13 @@ def order():
     yield round_in("request 63, denied", empty, denied(63, 1, 2, 3), 4)
     yield round_in("granted, not sound", empty, granted(1, 2, 4), 4)
     yield round_in("granted, sound", empty, granted(1, 2, 3), 4)
-    refused = ("1 byte", one_byte), ("kind 3", whole([(3, 16, set(), set())])), ("17 if not 24", whole([(1, 17, set(), {24})]))
+    refused = (
+        ("1 byte", one_byte),
+        ("kind 4", whole([(4, 16, set(), set())])),
+        ("17 if not 24", whole([(1, 17, set(), {24})])),
+        ("0 weighs 16", whole([weight(0, 16)])),
+        ("0 weighs 1 twice", whole(weighed(0, 1, 1))),
+    )
     for (name, policy), request in itertools.product(refused, (15, 63, 272)):
         yield round_in(f"{name}, fresh, request {request}", policy, fresh(request), 3)
         yield round_in(f"{name}, denied, request {request}", policy, denied(request, 0, 0, 1), 3)
@@ -489,6 +639,147 @@ def sizes_and_ties():
     yield from two("16 if 0 to 15", every, 16, 0xFFFF)
 
 
+def declined_each(name, records, request, rounds):
+    """Rounds in which nothing is shown."""
+    return in_turn(records, request, *((f"{name}, round {k + 1}", 0) for k in range(rounds)))
+
+
+THREE_WAYS = [access(16, 0, 1), access(16, 2), access(16, 3), *map(always, range(4))]
+
+
+def weights_decide():
+    """"The preferred set has the least total weight"; the same wherever the weights stand."""
+    for two_weighs, three_weighs in itertools.product((0, 1, 2, 3), repeat=2):
+        name = f"16 if 0, 1; if 2; if 3; 2 weighs {two_weighs}, 3 weighs {three_weighs}"
+        yield from declined_each(name, [*THREE_WAYS, weight(2, two_weighs), weight(3, three_weighs)], 16, 4)
+    yield from declined_each("the same, no weights", THREE_WAYS, 16, 4)
+    first, second = weight(2, 3), weight(3, 4)
+    for name, records in (
+        ("before", [first, second, *THREE_WAYS]),
+        ("after", [*THREE_WAYS, first, second]),
+        ("between", [*THREE_WAYS[:1], first, *THREE_WAYS[1:5], second, *THREE_WAYS[5:]]),
+        ("before and after", [second, *THREE_WAYS, first]),
+        ("at records 126 and 127", [*THREE_WAYS, *[access(17, 0)] * 119, second, first]),
+        ("at records 127 and 126", [*THREE_WAYS, *[access(17, 0)] * 119, first, second]),
+    ):
+        yield from declined_each(f"2 weighs 3, 3 weighs 4, {name}", records, 16, 4)
+    seven = [access(16, *range(7)), access(16, 7), *map(always, range(8))]
+    for weighs in range(16):
+        yield from two(f"16 if 0 to 6; if 7; 7 weighs {weighs}", [*seven, weight(7, weighs)], 16, 0)
+
+
+def weight_ties():
+    """"then the fewest credentials, then the smallest number"; each a name, bodies for 16, and what credentials weigh."""
+    ties = (
+        ("2 weighs as 0 and 1", ((0, 1), (2,)), {2: 2}),
+        ("0 and 1 weigh 3, so does 2", ((0, 1), (2,)), {0: 0, 1: 3, 2: 3}),
+        ("three against two", ((0, 1, 2), (3, 4)), {3: 0, 4: 3}),
+        ("three against two, all weigh 0", ((0, 1, 2), (3, 4)), dict.fromkeys(range(5), 0)),
+        ("two against three, the higher number", ((13, 14), (0, 1, 2)), {13: 1, 14: 2}),
+        ("one of 15 against three of 5", ((3, 4, 5), (9,)), {3: 5, 4: 5, 5: 5, 9: 15}),
+        ("two and two", ((0, 3), (1, 2)), dict.fromkeys(range(4), 2)),
+        ("two and two, other weights", ((0, 3), (1, 2)), {0: 1, 3: 3, 1: 2, 2: 2}),
+        ("two and two, in both bytes", ((0, 15), (8, 9)), {0: 0, 15: 2}),
+        ("two and two, the smaller number weighs more", ((0, 1), (2, 3)), {0: 2}),
+        ("15 and 14 weigh 15", ((15,), (14,)), {15: 15, 14: 15}),
+        ("8 and 7 weigh 0", ((8,), (7,)), {8: 0, 7: 0}),
+        ("12 weighs 1 as 11 does", ((12,), (11,)), {12: 1}),
+        ("16 and 15", ((0, 1), (2,)), {0: 15, 2: 15}),
+        ("16 and 15 by two", ((0, 1), (2, 3)), {0: 8, 1: 8, 2: 15, 3: 0}),
+        ("15 and 14", ((0, 1), (2,)), {0: 14, 2: 14}),
+        ("17 and 16", ((0, 1), (2, 3)), {0: 15, 1: 2, 2: 15, 3: 1}),
+        ("32 and 31", ((4, 5, 6), (7, 8, 9)), {4: 15, 5: 15, 6: 2, 7: 15, 8: 15, 9: 1}),
+        ("75 and 74", (range(5), range(5, 10)), {**dict.fromkeys(range(9), 15), 9: 14}),
+        ("75 and 74 by one more", (range(5), range(5, 11)), {**dict.fromkeys(range(9), 15), 9: 14, 10: 0}),
+        ("135 and 134", (range(9), range(7, 16)), {**dict.fromkeys(range(15), 15), 15: 14}),
+    )
+    for name, ways, weighs in ties:
+        askable = [always(atom) for atom in sorted({atom for way in ways for atom in way})]
+        records = [access(16, *way) for way in ways] + askable + [weight(*each) for each in weighs.items()]
+        yield from declined_each(name, records, 16, 3)
+
+
+def weight_zero():
+    """Weight 0 asks for no more than is needed, and costs nothing."""
+    four = list(map(always, range(4)))
+    free = [weight(atom, 0) for atom in (1, 2, 3)]
+    yield from two("16 if 0; 1 weighs 0", [access(16, 0), *four, weight(1, 0)], 16, 1)
+    yield from two("16 if 0; 1, 2 and 3 weigh 0", [access(16, 0), *four, *free], 16, 1)
+    yield from declined_each("16 if 0; if 1, 2, 3, which weigh 0", [access(16, 0), access(16, 1, 2, 3), *four, *free], 16, 3)
+    yield from two("16 if 0; if 1, 2, 3, which weigh 0 and are shown", [access(16, 0), access(16, 1, 2, 3), *four, *free], 16, 14)
+    yield from declined_each("16 if 1; if 0, 2; all weigh 0", [access(16, 0, 2), access(16, 1), *four, weight(0, 0), *free], 16, 3)
+    yield from two("16 always, all weigh 0", [ALWAYS_16, *four, weight(0, 0), *free], 16, 0)
+    breach = [access(16, 0), (1, 63, set(), {24}), access(24, 1), *four]
+    yield from two("16 if 0, breach if not 1, which weighs 0", [*breach, weight(1, 0)], 16, 3)
+    yield from two("16 if 0, breach if not 1, which weighs 15", [*breach, weight(1, 15)], 16, 3)
+    behind = [always(1), (2, 2, {1}, set()), always(0), access(16, 0), access(16, 2)]
+    yield from two("2 is behind 1, and weighs 0", [*behind, weight(2, 0)], 16, 4)
+    yield from two("2 is behind 1, which weighs 0", [*behind, weight(1, 0)], 16, 4)
+    yield from two("2 is behind 1, which weighs 15", [*behind, weight(1, 15), weight(0, 2)], 16, 4)
+
+
+def heavy():
+    """"showing a club officer's certificate where a plain one would do": asked for last."""
+    sixteen = [always(atom) for atom in range(16)]
+    four = [access(16, 4), *sixteen[:5], weight(4, 15)]
+    yield from declined_each("16 if 4, which weighs 15; if 0 to 3", [access(16, *range(4)), *four], 16, 3)
+    yield from two("16 if 4, which weighs 15", four, 16, 16)
+    many = [access(16, 15), weight(15, 15), sixteen[15]]
+    yield from two("16 if 15, which weighs 15; if 0 to 13", [*many, access(16, *range(14)), *sixteen[:14]], 16, 0)
+    yield from two("16 if 15, which weighs 15; if 0 to 14", [*many, access(16, *range(15)), *sixteen[:15]], 16, 0)
+    every = [*sixteen, *(weight(atom, 15) for atom in range(16))]
+    yield from two("16 if 0 to 15, which weigh 15", [access(16, *range(16)), *every], 16, 0xFFFF)
+    single = [access(16, atom) for atom in range(16)]
+    yield from declined_each("16 if any one, all weigh 15", [*single, *every], 16, 2)
+    for factor, first in ((7, 3), (11, 0), (15, 15)):
+        weighs = [weight(atom, (factor * atom + first) % 16) for atom in range(16)]
+        name = f"16 if any one, which weighs {factor} times its number and {first}"
+        yield from declined_each(name, [*single, *sixteen, *weighs], 16, 17)
+
+
+def weighed_rounds():
+    """Questions of several rounds, shown in part."""
+    weighs = {0: 0, 1: 4, 2: 2, 3: 2, 4: 5}
+    ways = [access(16, *way) for way in ((0, 1), (2, 3), (4,), (5, 6, 7))]
+    records = [*ways, *map(always, range(8)), *(weight(*each) for each in weighs.items())]
+    names = "four ways", "5 shown", "0 shown", "2 shown", "4 shown"
+    yield from in_turn(records, 16, *zip(names, (0, 0x20, 1, 4, 16)))
+    yield from in_turn(records, 16, ("four ways, 1 and 3 shown", 0xA), ("2 shown, not 0", 4))
+    yield from in_turn(records, 16, ("four ways, 6 shown", 0x40), ("1 shown, neither 5 nor 7", 2), ("all but 0 shown", 0xFE))
+    yield round_in("four ways, 4 asked first", whole(records), waiting(0x10, 0, 0, 1), 0)
+    yield round_in("four ways, 4 asked first, 7 shown", whole(records), waiting(0x10, 0, 0, 1), 0x80)
+    roles = [access(24, 16, 17), access(16, 0), access(16, 1), (1, 17, {2}, {3}), (1, 17, {4}, set()), *map(always, range(5))]
+    for name, weighs in (("no weights", {}), ("0 and 2 weigh 9", {0: 9, 2: 9}), ("2 weighs 0, 4 weighs 0", {2: 0, 4: 0, 1: 0})):
+        given = [weight(*each) for each in weighs.items()]
+        yield from in_turn([*given, *roles], 24, *((f"24 if 16, 17; {name}, {some:04x} shown", some) for some in (0, 8, 1, 0x12)))
+
+
+def weights_alone():
+    """A weight discloses nothing, and is no rule."""
+    for weighs in (0, 1, 2, 15):
+        yield from two(f"16 if 3, not disclosed, 3 weighs {weighs}", [access(16, 3), weight(3, weighs)], 16, 8)
+        yield from in_turn([access(16, 3), weight(3, weighs)], 16, (f"16 if 3, 3 weighs {weighs}, 0 to 2 shown", 7))
+        yield from two(f"16 if 3; if 4; 3 weighs {weighs}", [access(16, 3), access(16, 4), always(4), weight(3, weighs)], 16, 16)
+    yield from two("only weights", [weight(0, 0), weight(15, 1)], 16, 0xFFFF)
+    shown = 0, 0, 3
+    for name, weighs in (
+        ("no credential of its own weighs", {3: 0, 5: 7, 15: 15}),
+        ("1 weighs 0", {1: 0}),
+        ("0 and 1 weigh 0", {0: 0, 1: 0}),
+        ("2 weighs 2", {2: 2}),
+        ("2 weighs 3", {2: 3}),
+        ("2 weighs 15", {2: 15, 0: 7, 1: 7}),
+        ("all weigh 1", {0: 1, 1: 1, 2: 1, 3: 1}),
+    ):
+        records = POLICY_A + [weight(*each) for each in weighs.items()]
+        yield from in_turn(records, 16, *((f"policy A, {name}, round {k + 1}", some) for k, some in enumerate(shown)))
+
+
+def weighted():
+    for some in (weights_decide, weight_ties, weight_zero, heavy, weighed_rounds, weights_alone):
+        yield from some()
+
+
 def from_fresh():
     fifteen = access(16, 15)
     yield from two("16 if 15", [fifteen, always(15)], 16, 0x8000)
@@ -514,13 +805,23 @@ def replays():
     for n in range(3):
         yield replay(f"17 if not 24, list of {n or 'none'}", broken, 16, shown[:n])
     yield replay("17 if not 24, request 15", broken, 15, shown[:2])
+    heavier = [*THREE_WAYS, weight(2, 3), weight(3, 3)]
+    for n in range(5):
+        yield replay(f"2 and 3 weigh 3, list of {n or 'none'}", heavier, 16, (0,) * n)
+    for name, records in (("2 weighs 16", [*THREE_WAYS, weight(2, 16)]), ("2 weighs 3 twice", [*THREE_WAYS, *weighed(2, 3, 3)])):
+        for n in range(3):
+            yield replay(f"{name}, list of {n or 'none'}", records, 16, shown[:n])
+        yield replay(f"{name}, request 15", records, 15, shown[:2])
 
 
 def cases():
     yield from policies()
     yield from records_in_turn()
+    for some in (second_weights, sixteen_weights, weights_in_turn):
+        yield from some()
     yield from sessions()
     yield from from_fresh()
+    yield from weighted()
     yield from replays()
 
 

@@ -99,7 +99,7 @@ def unread(program, folder, run):
 
 def recorded_runs():
     runs = {run.name: run for run in bench_sessions.runs()}
-    chosen = [name for name in runs if name.startswith(("(", "odd byte ff", "one byte ff", "17 rounds", "ties", "twenty"))]
+    chosen = [name for name in runs if name.startswith(("(", "odd byte ff", "one byte ff", "17 rounds", "ties", "twenty", "weights"))]
     ways = {
         "": (at_once, runs),
         ", a byte at a time": (byte_by_byte, chosen),

@@ -1,4 +1,4 @@
-"""Document 01's records and sessions, from its definitions and not from our code.
+"""Document 01's records and sessions with document 02's weights (R-2), from their definitions and not from our code.
 
 A policy is a list of records: kind, head, positive atoms, negated atoms.
 """
@@ -26,8 +26,17 @@ def encoded(kind, head, positive, negated):
     return bytes([kind, head]) + b"".join(number(side).to_bytes(8, "little") for side in (positive, negated))
 
 
+def atoms_of(bits):
+    return frozenset(atom for atom in range(64) if bits >> atom & 1)
+
+
 def credentials(bits):
     return frozenset(atom for atom in range(16) if bits >> atom & 1)
+
+
+def weight(credential, weighs, negated=()):
+    """A record of kind 3: the weight is "its positive set's number"."""
+    return 3, credential, set(atoms_of(weighs)), set(negated)
 
 
 def subsets(atoms):
@@ -67,6 +76,18 @@ def disclosable(policy, shown):
     return least(shown, [record[1:3] for record in policy if record[0] == 2])
 
 
+def weights(policy):
+    """What each credential weighs: "unnamed ones weigh 1"."""
+    named = {head: number(positive) for kind, head, positive, _ in policy if kind == 3}
+    return [named.get(credential, 1) for credential in range(16)]
+
+
+def by_preference(policy, some):
+    """The sets of some credentials: "the least total weight, then the fewest credentials, then the smallest number"."""
+    weighs = weights(policy)
+    return sorted(subsets(some), key=lambda one: (sum(weighs[atom] for atom in one), len(one), number(one)))
+
+
 def is_service(request):
     return 16 <= request <= 62
 
@@ -103,7 +124,7 @@ def accepted_round(policy, session, given):
 
     if unlocks(policy, shown, session.request):
         return "grant", after(("closed granted", EMPTY))
-    for asked in subsets(disclosable(policy, shown) - shown - declined):
+    for asked in by_preference(policy, disclosable(policy, shown) - shown - declined):
         if unlocks(policy, shown | asked, session.request):
             return f"ask {number(asked):04x}", after(("waiting", asked))
     return "deny", after(("closed denied", EMPTY))

@@ -13,6 +13,8 @@ pub struct BenchCounts {
     /// Runs with a round after closing.
     beyond: u64,
     refused_policy: u64,
+    /// Policies refused 12 and 13.
+    refused_weight: [u64; 2],
     refused_request: u64,
     nothing: u64,
     pub disagreed: u64,
@@ -29,6 +31,9 @@ impl BenchCounts {
         self.beyond += has("refused 9");
         self.refused_request += has("refused 7");
         self.refused_policy += u64::from(text.contains(" at "));
+        let refused = |line: &str| u64::from(text.starts_with(line));
+        self.refused_weight[0] += refused("refused 12 at");
+        self.refused_weight[1] += refused("refused 13 at");
         self.nothing += u64::from(text.is_empty());
     }
 
@@ -40,6 +45,8 @@ impl BenchCounts {
         self.denied += other.denied;
         self.beyond += other.beyond;
         self.refused_policy += other.refused_policy;
+        self.refused_weight[0] += other.refused_weight[0];
+        self.refused_weight[1] += other.refused_weight[1];
         self.refused_request += other.refused_request;
         self.nothing += other.nothing;
         self.disagreed += other.disagreed;
@@ -68,12 +75,14 @@ impl BenchCounts {
         missing
     }
 
-    fn endings(&self) -> [(u64, &'static str); 6] {
+    fn endings(&self) -> [(u64, &'static str); 8] {
         [
             (self.granted, "granted"),
             (self.denied, "denied"),
             (self.beyond, "with rounds after closing"),
             (self.refused_policy, "policy refused"),
+            (self.refused_weight[0], "policy refused 12"),
+            (self.refused_weight[1], "policy refused 13"),
             (self.refused_request, "request refused"),
             (self.nothing, "without output"),
         ]

@@ -4,6 +4,7 @@ use crate::bench_counts::BenchCounts;
 use crate::calls::{ending_of, refusal_of, Call, DENY, GRANT};
 use crate::log_counts::LogCounts;
 use crate::question_counts::QuestionCounts;
+use crate::weight_counts::WeightCounts;
 use crate::weighted::counts::WeightedCounts;
 
 /// What a case was made as.
@@ -49,19 +50,23 @@ pub const KINDS: [&str; 19] = [
     "round of a list, any client",
     "round of a list, cooperative client",
     "round of a list, policies changing",
-    "every length, head, body atom, request; small sessions",
+    "every length, head, body atom, weight, request; small sessions",
 ];
+
+/// Replies of the policy's test, and of rounds, by refusal number; 0 is not refused.
+const POLICY_REPLIES: [u32; 9] = [0, 1, 2, 3, 4, 5, 6, 12, 13];
+const ROUND_REPLIES: [u32; 12] = [0, 1, 2, 3, 4, 5, 6, 7, 8, 9, 12, 13];
 
 /// Counters, each of one thread; `add` joins them.
 #[derive(Clone, Default)]
 pub struct Counts {
     pub kinds: [u64; 19],
-    /// Replies of gate_check by refusal number, 0 accepted.
-    pub policies: [u64; 7],
+    /// Replies of gate_check, in the order of `POLICY_REPLIES`.
+    pub policies: [u64; 9],
     /// Replies of gate_open: fresh sessions, refusals 7.
     pub openings: [u64; 2],
-    /// Refusals of gate_round by number; 0 is not refused.
-    pub refusals: [u64; 10],
+    /// Replies of gate_round, in the order of `ROUND_REPLIES`.
+    pub refusals: [u64; 12],
     pub grants: u64,
     pub denies: u64,
     pub questions: QuestionCounts,
@@ -78,6 +83,7 @@ pub struct Counts {
     pub definition: u64,
     pub all_stable_sets: u64,
     pub tuned: u64,
+    pub weights: WeightCounts,
     pub logs: LogCounts,
     pub bench: BenchCounts,
     pub weighted: WeightedCounts,
@@ -92,6 +98,13 @@ fn add_all(to: &mut [u64], from: &[u64]) {
     }
 }
 
+/// One more of a refusal number.
+fn count(counts: &mut [u64], numbers: &[u32], number: u32) {
+    if let Some(place) = numbers.iter().position(|other| *other == number) {
+        counts[place] += 1;
+    }
+}
+
 impl Counts {
     pub fn cases(&self) -> u64 {
         self.kinds.iter().sum()
@@ -100,9 +113,9 @@ impl Counts {
     /// Counts one case.
     pub fn case(&mut self, kind: Kind, call: Call, reply: u32) {
         self.kinds[kind as usize] += 1;
-        let number = refusal_of(reply) as usize;
+        let number = refusal_of(reply);
         match call {
-            Call::Check => self.policies[number.min(6)] += 1,
+            Call::Check => count(&mut self.policies, &POLICY_REPLIES, number),
             Call::Open(_) => self.openings[usize::from(number != 0)] += 1,
             Call::Round(_) => self.round(reply),
             _ => {}
@@ -110,8 +123,8 @@ impl Counts {
     }
 
     fn round(&mut self, reply: u32) {
-        let number = refusal_of(reply) as usize;
-        self.refusals[number.min(9)] += 1;
+        let number = refusal_of(reply);
+        count(&mut self.refusals, &ROUND_REPLIES, number);
         match ending_of(reply) {
             _ if number != 0 => {}
             GRANT => self.grants += 1,
@@ -139,6 +152,7 @@ impl Counts {
         self.definition += other.definition;
         self.all_stable_sets += other.all_stable_sets;
         self.tuned += other.tuned;
+        self.weights.add(&other.weights);
         self.logs.add(&other.logs);
         self.bench.add(&other.bench);
         self.weighted.add(&other.weighted);
@@ -156,10 +170,10 @@ impl Counts {
         for (kind, name) in KINDS.iter().enumerate() {
             need(self.kinds[kind], format!("cases: {name}"));
         }
-        for (number, count) in self.policies.iter().enumerate() {
+        for (number, count) in POLICY_REPLIES.iter().zip(&self.policies) {
             need(*count, format!("gate_check: reply {number}"));
         }
-        for (number, count) in self.refusals.iter().enumerate() {
+        for (number, count) in ROUND_REPLIES.iter().zip(&self.refusals) {
             need(*count, format!("gate_round: refusal {number}"));
         }
         need(self.grants, "grants".to_string());
@@ -169,6 +183,7 @@ impl Counts {
         }
         need(self.licensed_at_bound_lacking, "bound 2 + u".to_string());
         missing.extend(self.questions.missing());
+        missing.extend(self.weights.missing());
         missing.extend(self.logs.missing());
         missing.extend(self.bench.missing());
         missing.extend(self.weighted.missing());
@@ -182,12 +197,21 @@ impl Counts {
             println!("  {count:>10}  {name}");
         }
         println!("\nreplies");
-        row("policies by refusal, 0 accepted", &self.policies, 0);
-        row("openings: fresh, refused 7", &self.openings, 0);
-        row("rounds by refusal, 0 accepted", &self.refusals, 0);
+        row(
+            "policies by refusal, 0 accepted",
+            &self.policies,
+            POLICY_REPLIES,
+        );
+        row("openings: fresh, refused 7", &self.openings, [0, 7]);
+        row(
+            "rounds by refusal, 0 accepted",
+            &self.refusals,
+            ROUND_REPLIES,
+        );
         println!("  rounds ended in grant: {}", self.grants);
         println!("  rounds ended in deny: {}", self.denies);
         self.questions.print();
+        self.weights.print();
         self.print_lists();
         println!("\nsecond opinions on the plain version");
         println!("  by the definition: {}", self.definition);
@@ -205,7 +229,7 @@ impl Counts {
             self.lists.iter().sum::<u64>()
         );
         println!("  left open: {}", self.lists[0]);
-        row("closed, by rounds, from 1", &self.lists[1..], 1);
+        row("closed, by rounds, from 1", &self.lists[1..], 1..=17);
         println!("  closed in round d + 1: {}", self.lists_at_d_plus_1);
         println!("  with a cooperative client: {}", self.cooperative);
         println!("  of these with the premise: {}", self.licensed);
@@ -216,12 +240,12 @@ impl Counts {
     }
 }
 
-/// A histogram in one line.
-fn row(name: &str, counts: &[u64], first: usize) {
-    let cells: Vec<String> = counts
-        .iter()
-        .enumerate()
-        .map(|(place, count)| format!("{}:{count}", place + first))
+/// A histogram in one line, each count with its number.
+fn row(name: &str, counts: &[u64], numbers: impl IntoIterator<Item = u32>) {
+    let cells: Vec<String> = numbers
+        .into_iter()
+        .zip(counts)
+        .map(|(number, count)| format!("{number}:{count}"))
         .collect();
     println!("  {name}: {}", cells.join(" "));
 }

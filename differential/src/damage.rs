@@ -1,11 +1,12 @@
 //! Damaged policies, and policies just at a boundary of the written form.
 
-use crate::plain::policy::Record;
-use crate::policies::{accepted, access, disclosure, encode};
+use crate::plain::policy::{read, Record};
+use crate::policies::{accepted, access, disclosure, encode, weight};
 use crate::random::Random;
+use crate::weighing::{self, insert_second};
 
 /// Bytes at which a test may turn.
-const BYTES: [u8; 14] = [0, 1, 2, 3, 7, 8, 15, 16, 23, 63, 64, 127, 128, 255];
+const BYTES: [u8; 15] = [0, 1, 2, 3, 4, 7, 8, 15, 16, 23, 63, 64, 127, 128, 255];
 
 /// Lengths at which a test may turn.
 const LENGTHS: [usize; 15] = [
@@ -51,12 +52,12 @@ fn set_length(random: &mut Random, bytes: &mut Vec<u8>) {
     bytes.truncate(length);
 }
 
-/// A record with one fault, of number 3 to 6, as near to a right one as can be.
+/// A record with one fault, of number 3 to 6 or 12, as near to a right one as can be.
 fn faulty(random: &mut Random) -> Record {
     let right = access(24, 0x0100_0000, 0x0080_0000);
-    match random.below(12) {
+    match random.below(16) {
         0 => Record { kind: 0, ..right },
-        1 => Record { kind: 3, ..right },
+        1 => Record { kind: 4, ..right },
         2 => access(random.pick(&[15, 64, 0, 255]), 0, 0),
         3 => disclosure(random.pick(&[16, 63, 255]), 0),
         4 => access(63, 1 << 63, 0),
@@ -69,6 +70,7 @@ fn faulty(random: &mut Random) -> Record {
         8 => access(23, 1 << 24, 0),
         9 => access(24, 0, 1 << 24),
         10 => access(55, 1 << 56, 0),
+        11..=14 => weighing::faulty(random),
         _ => access(62, 0, 1 << 56),
     }
 }
@@ -77,6 +79,15 @@ fn insert_faulty(random: &mut Random, bytes: &mut Vec<u8>) {
     let at = 18 * random.below(bytes.len() / 18 + 1);
     let record = faulty(random);
     bytes.splice(at..at, encode(&[record]));
+}
+
+/// A second weight, if there is a whole policy to put it in.
+fn insert_again(random: &mut Random, bytes: &mut Vec<u8>) {
+    if bytes.len().is_multiple_of(18) {
+        let mut records: Vec<Record> = bytes.chunks(18).map(read).collect();
+        insert_second(random, &mut records);
+        *bytes = encode(&records);
+    }
 }
 
 /// One bit more in a body, at any level.
@@ -94,7 +105,9 @@ fn nearly_random(random: &mut Random) -> Vec<u8> {
         let sparse = random.number() & random.number() & random.number();
         let other = random.number() & random.number() & random.number() & random.number();
         let head = random.range(16, 64) as u8;
-        let mut record = if random.one_in(3) {
+        let mut record = if random.one_in(4) {
+            weight(random.below(17) as u8, random.below(17) as u64)
+        } else if random.one_in(3) {
             disclosure(random.below(17) as u8, sparse & 0x1_ffff)
         } else if random.one_in(2) {
             access(head, sparse & low(head), other & low(head))
@@ -136,12 +149,13 @@ pub fn damaged(random: &mut Random) -> Vec<u8> {
     }
     let mut bytes = encode(&accepted(random));
     for _ in 0..random.pick(&[1, 1, 1, 2, 3, 4]) {
-        match random.below(8) {
+        match random.below(9) {
             0 => flip_bit(random, &mut bytes),
             1 => change_byte(random, &mut bytes),
             2 => change_front(random, &mut bytes),
             3 => set_length(random, &mut bytes),
             4 | 5 => add_atom(random, &mut bytes),
+            6 => insert_again(random, &mut bytes),
             _ => insert_faulty(random, &mut bytes),
         }
     }
@@ -153,11 +167,14 @@ pub fn boundary(random: &mut Random) -> Vec<u8> {
     let edges = [
         0, 14, 15, 16, 17, 22, 23, 24, 25, 54, 55, 56, 57, 61, 62, 63,
     ];
+    if random.one_in(4) {
+        return encode(&weighing::edges(random));
+    }
     let mut records = Vec::new();
     for _ in 0..random.pick(&[1, 1, 1, 2, 3]) {
         let (a, b) = (random.pick(&edges), random.pick(&edges));
         let head = random.pick(&edges) as u8 + u8::from(random.one_in(40)) * 64;
-        let kind = random.pick(&[1, 1, 1, 1, 2, 2, 0, 3]);
+        let kind = random.pick(&[1, 1, 1, 1, 2, 2, 0, 3, 4]);
         records.push(Record {
             kind,
             head,

@@ -1,5 +1,5 @@
-//! Document 01 once more, read as it stands: nothing is computed cleverly, sets are looked for among all sets. It is a second
-//! opinion on the plain version, on cases small enough for it.
+//! Document 01 and document 02's weights once more, read as they stand: nothing is computed cleverly, sets are looked for among
+//! all sets. It is a second opinion on the plain version, on cases small enough for it.
 
 use crate::calls::{Call, Memory, Version};
 use crate::plain::interface::{decode, encode, ending_reply, refusal_reply};
@@ -83,29 +83,50 @@ fn unlocks(rules: &[Record], r: u16, c: u16) -> bool {
     m >> r & 1 == 1 && m >> 63 & 1 == 0
 }
 
-/// "among subsets of D that with P unlock the request": all are tried, and the least by count and number is taken.
-fn preferred(rules: &[Record], r: u16, shown: u16, d: u16) -> Option<u16> {
+/// "A record of kind 3 gives a credential (head) a weight 0 to 15 in its positive set's number; unnamed ones weigh 1."
+fn weight(records: &[Record], credential: u8) -> u64 {
+    let named = records.iter().find(|record| record.head == credential);
+    named.map_or(1, |record| record.positive)
+}
+
+/// "among subsets of D that with P unlock the request": all are tried, and the least by weight, count and number is taken.
+fn preferred(policy: &Policy, r: u16, shown: u16, d: u16) -> Option<u16> {
+    let members = |set: u16| (0..16).filter(move |k| set >> k & 1 == 1);
+    let total = |set: u16| -> u64 { members(set).map(|k| weight(&policy.weights, k)).sum() };
     subsets(u64::from(d))
         .map(|subset| subset as u16)
-        .filter(|subset| unlocks(rules, r, shown | subset))
-        .min_by_key(|subset| (subset.count_ones(), *subset))
+        .filter(|subset| unlocks(&policy.access, r, shown | subset))
+        .min_by_key(|subset| (total(*subset), members(*subset).count(), *subset))
 }
 
 fn atom_in(set: u64, from: u8, to: u8) -> bool {
     (from..=to).any(|atom| set >> atom & 1 == 1)
 }
 
-/// Whether a refusal from 3 to 6 applies to a record, whatever others do.
-fn applies(number: u8, record: &Record) -> bool {
+/// Whether 12 or 13 applies to a record of kind 3, by those before it.
+fn weight_applies(number: u8, record: &Record, before: &[Record]) -> bool {
+    let weights = before.iter().filter(|other| other.kind == 3);
+    match number {
+        12 => atom_in(record.positive, 4, 63) || atom_in(record.negative, 0, 63),
+        13 => weights
+            .map(|other| other.head)
+            .any(|head| head == record.head),
+        _ => false,
+    }
+}
+
+/// Whether a refusal from 3 to 6, 12 or 13 applies to a record, whatever others do.
+fn applies(number: u8, record: &Record, before: &[Record]) -> bool {
     let access = record.kind == 1;
     let above = |least: u8| (0..63).filter(move |atom| level(*atom) >= least);
     match number {
-        3 => record.kind == 0 || record.kind > 2,
+        3 => record.kind == 0 || record.kind > 3,
         4 if access => record.head < 16 || record.head > 63,
         4 => record.head > 15,
+        _ if record.kind == 3 => weight_applies(number, record, before),
         5 if access => atom_in(record.positive, 63, 63) || atom_in(record.negative, 63, 63),
         5 => atom_in(record.positive, 16, 63) || atom_in(record.negative, 0, 63),
-        _ if access => {
+        6 if access => {
             let head = level(record.head);
             above(head + 1).any(|atom| record.positive >> atom & 1 == 1)
                 || above(head).any(|atom| record.negative >> atom & 1 == 1)
@@ -139,9 +160,11 @@ fn check(policy: &[u8]) -> Result<Policy, Refusal> {
         return Err(Refusal::by_writer(2, whole));
     }
     let records: Vec<Record> = (0..whole).map(|k| read(&policy[18 * k..])).collect();
+    let before = |k: usize| &records[..k];
     let faults = records.iter().enumerate().flat_map(|(k, record)| {
-        (3..=6)
-            .filter(move |number| applies(*number, record))
+        [3, 4, 5, 6, 12, 13]
+            .into_iter()
+            .filter(move |number| applies(*number, record, before(k)))
             .map(move |number| (k, number))
     });
     match faults.min() {
@@ -149,6 +172,7 @@ fn check(policy: &[u8]) -> Result<Policy, Refusal> {
         None => Ok(Policy {
             access: records.iter().filter(|r| r.kind == 1).copied().collect(),
             disclosure: records.iter().filter(|r| r.kind == 2).copied().collect(),
+            weights: records.iter().filter(|r| r.kind == 3).copied().collect(),
         }),
     }
 }
@@ -179,7 +203,7 @@ fn round(policy: &Policy, s: &Session, p: u16) -> (Ending, Session) {
     let d = disclosable(&policy.disclosure, shown) & !(shown | declined);
     let (ending, phase) = if unlocks(&policy.access, s.request, shown) {
         (Ending::Grant, Phase::Closed(Verdict::Grant))
-    } else if let Some(q) = preferred(&policy.access, s.request, shown, d) {
+    } else if let Some(q) = preferred(policy, s.request, shown, d) {
         (Ending::Ask(q), Phase::Waiting(q))
     } else {
         (Ending::Deny, Phase::Closed(Verdict::Deny))

@@ -1,12 +1,12 @@
-//! Cases that are not random, or not all of it: every length, every head with every single body atom, every request, small
-//! sessions, small logs, every size of a question.
+//! Cases that are not random, or not all of it: every length, every head with every single body atom, every weight, every
+//! request, small sessions, small logs, every size of a question.
 
 use crate::calls::Call;
 use crate::counts::Kind;
 use crate::logs::every_log;
 use crate::marked::policy_a;
 use crate::plain::policy::Record;
-use crate::policies::{access, disclosure, encode};
+use crate::policies::{access, disclosure, encode, weight};
 use crate::questions::{every_block, every_size};
 use crate::tester::Tester;
 
@@ -56,6 +56,57 @@ fn bodies(tester: &mut Tester) {
     }
 }
 
+/// Kind 3 with every allowed head and every single bit, on either side.
+fn weight_bits(tester: &mut Tester) {
+    for (head, bit) in (0..16).flat_map(|head| (0..64).map(move |bit| (head, bit))) {
+        check(tester, encode(&[weight(head, 1 << bit)]));
+        let negated = Record {
+            negative: 1 << bit,
+            ..weight(head, 0)
+        };
+        check(tester, encode(&[negated]));
+    }
+}
+
+/// Every weight up to 600.
+fn weights(tester: &mut Tester) {
+    for number in 0..=600 {
+        let head = (number % 16) as u8;
+        check(tester, encode(&[weight(head, number)]));
+    }
+}
+
+/// Two weights for every two heads, and a disclosure rule for each.
+fn two_weights(tester: &mut Tester) {
+    for (one, other) in (0..17).flat_map(|one| (0..17).map(move |other| (one, other))) {
+        check(tester, encode(&[weight(one, 1), weight(other, 1)]));
+        check(tester, encode(&[weight(one, 1), weight(other, 2)]));
+        check(tester, encode(&[disclosure(one, 0), weight(other, 2)]));
+    }
+}
+
+/// Two weights for one credential, with any number of rules between, and no second one.
+fn weights_apart(tester: &mut Tester) {
+    for between in 0..=126 {
+        let mut records = vec![access(16, 1, 2); between + 2];
+        records[0] = weight(3, 2);
+        check(tester, encode(&records));
+        records[between + 1] = weight(3, 2);
+        check(tester, encode(&records));
+    }
+}
+
+/// 16 if 0, 1; 16 if 2; all disclosed, with every weight of 0 and every weight of 2.
+fn weighed_questions(tester: &mut Tester) {
+    for (one, other) in (0..16).flat_map(|one| (0..16).map(move |other| (one, other))) {
+        let mut records = vec![access(16, 0b11, 0), access(16, 0b100, 0)];
+        records.extend((0..3).map(|head| disclosure(head, 0)));
+        records.extend([weight(0, one), weight(2, other)]);
+        tester.set_policy(encode(&records));
+        session(tester, 0, 0, 0, 0, 0);
+    }
+}
+
 fn requests(tester: &mut Tester) {
     for request in 0..=u16::MAX {
         let memory = tester.memory();
@@ -91,6 +142,11 @@ pub fn exhaustive(tester: &mut Tester) {
     lengths(tester);
     heads(tester);
     bodies(tester);
+    weight_bits(tester);
+    weights(tester);
+    two_weights(tester);
+    weights_apart(tester);
+    weighed_questions(tester);
     requests(tester);
     sessions(tester);
     every_log(tester);

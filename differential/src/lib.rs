@@ -30,5 +30,7 @@ pub mod slips;
 pub mod stack;
 pub mod tester;
 pub mod tuned;
+pub mod weighing;
+pub mod weight_counts;
 pub mod weighted;
 pub mod weighted_runs;

@@ -1,8 +1,8 @@
-//! Document 01's own examples ("Marked for proof, and others"): what it says of each, of any version.
+//! Document 01's own examples ("Marked for proof, and others"), and some of weights: what is said of each, of any version.
 
 use crate::calls::{asked_of, ending_of, refusal_of, Call, Memory, Version, ASK, DENY, GRANT};
 use crate::plain::policy::Record;
-use crate::policies::{access, disclosure, encode};
+use crate::policies::{access, disclosure, encode, weight};
 
 /// "Policy A: 16 if 0, 1; 16 if 2, not 3; 63 if 0, 2; disclosure 0 always; 1 if 0; 2 always."
 pub fn policy_a() -> Vec<u8> {
@@ -25,6 +25,23 @@ pub fn policy_b() -> Vec<u8> {
     ];
     records.extend((0..4).map(|head| disclosure(head, 0)));
     encode(&records)
+}
+
+/// 16 if 0, 1; 16 if 2; 16 if 3; disclosure of 0 to 3 always; these weights of 2 and 3.
+fn weighed(weights: &[u64]) -> Vec<u8> {
+    let mut records = vec![
+        access(16, 0b11, 0),
+        access(16, 0b100, 0),
+        access(16, 0b1000, 0),
+    ];
+    records.extend((0..4).map(|head| disclosure(head, 0)));
+    records.extend((2..).zip(weights).map(|(head, w)| weight(head, *w)));
+    encode(&records)
+}
+
+/// A client that shows nothing in four rounds under these weights of 2 and 3.
+fn shows_nothing(version: &mut dyn Version, weights: &[u64]) -> String {
+    session(version, &weighed(weights), 16, &[0; 4])
 }
 
 fn one(record: Record) -> Vec<u8> {
@@ -68,8 +85,36 @@ fn empty_question(version: &mut dyn Version) -> u32 {
     version.call(Call::Round(0), &mut policy_a(), &mut memory)
 }
 
-/// Each example with whether the version gives what document 01 says.
+/// Examples of weights: which are refused, and which set is asked for first.
+fn weighed_examples(v: &mut dyn Version) -> Vec<(&'static str, bool)> {
+    let negated = Record {
+        negative: 1,
+        ..weight(2, 1)
+    };
+    let twice = encode(&[weight(2, 1), weight(3, 1), weight(2, 1)]);
+    let (first, last) = ("0003 0004 0008 deny", "0004 0008 0003 deny");
+    vec![
+        ("weight 15", check(v, &one(weight(2, 15))) == 0),
+        ("weight 16", check(v, &one(weight(2, 16))) == 12),
+        ("weight of 15", check(v, &one(weight(15, 0))) == 0),
+        ("weight of 16", check(v, &one(weight(16, 0))) == 4),
+        ("weight, something negated", check(v, &one(negated)) == 12),
+        ("a second weight", check(v, &twice) == 13 | 2 << 8),
+        ("weights 3 and 3", shows_nothing(v, &[3, 3]) == first),
+        ("weights 2 and 2", shows_nothing(v, &[2, 2]) == last),
+        ("no weights", shows_nothing(v, &[]) == last),
+    ]
+}
+
+/// Each example with whether the version gives what the papers say.
 pub fn marked(v: &mut dyn Version) -> Vec<(&'static str, bool)> {
+    let mut all = written_examples(v);
+    all.extend(weighed_examples(v));
+    all
+}
+
+/// Document 01's.
+fn written_examples(v: &mut dyn Version) -> Vec<(&'static str, bool)> {
     let (a, b) = (policy_a(), policy_b());
     let example = [
         &[1u8, 16, 4, 0, 0, 0, 0, 0, 0, 0][..],

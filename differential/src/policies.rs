@@ -1,7 +1,8 @@
 //! Random policies of the written form, of many shapes.
 
-use crate::plain::policy::{level, Record, ACCESS, DISCLOSURE};
+use crate::plain::policy::{level, Record, ACCESS, DISCLOSURE, WEIGHT};
 use crate::random::Random;
+use crate::weighing::weigh;
 
 /// The bytes of records.
 pub fn encode(records: &[Record]) -> Vec<u8> {
@@ -28,6 +29,15 @@ pub fn disclosure(head: u8, positive: u64) -> Record {
         kind: DISCLOSURE,
         head,
         positive,
+        negative: 0,
+    }
+}
+
+pub fn weight(head: u8, weight: u64) -> Record {
+    Record {
+        kind: WEIGHT,
+        head,
+        positive: weight,
         negative: 0,
     }
 }
@@ -334,6 +344,7 @@ pub fn accepted(random: &mut Random) -> Vec<Record> {
         }
     };
     decorate(random, &mut records);
+    weigh(random, &mut records);
     records.truncate(128);
     records
 }
@@ -347,6 +358,7 @@ pub fn talkative(random: &mut Random) -> Vec<Record> {
         _ => random_rules(random, 3, 16),
     };
     decorate(random, &mut records);
+    weigh(random, &mut records);
     records
 }
 
@@ -374,6 +386,7 @@ pub fn licensed(random: &mut Random) -> (Vec<Record>, u16) {
         records.push(access(service, draw(random, held, 1), 1 << lacked[0]));
     }
     random.shuffle(&mut records);
+    weigh(random, &mut records);
     let extra = random.part(
         lacked[askable..]
             .iter()

@@ -133,6 +133,7 @@ impl<'a> Tester<'a> {
         let (reply, memory, kept) = self.ask_subject(call, before);
         let (wanted, wanted_memory) = self.ask_oracle(call, before);
         self.counts.case(kind, call, wanted);
+        self.count_weights(call, wanted);
         self.count_question(call, wanted, wanted_memory);
         if self.counts.cases().is_multiple_of(64) {
             self.shared.cases.fetch_add(64, Ordering::Relaxed);
@@ -159,6 +160,14 @@ impl<'a> Tester<'a> {
         Some((reply, after))
     }
 
+    /// Counts the policy's weights by the reply of its test.
+    fn count_weights(&mut self, call: Call, reply: u32) {
+        if call == Call::Check {
+            let rules = self.rules.as_ref();
+            self.counts.weights.policy(&self.policy, rules, reply);
+        }
+    }
+
     /// Counts the question that a round has given, beside what may be asked.
     fn count_question(&mut self, call: Call, reply: u32, after: Memory) {
         let (Some(rules), Some(session)) = (&self.rules, decode(after.session())) else {
@@ -169,6 +178,9 @@ impl<'a> Tester<'a> {
             let outside = session.shown | session.declined;
             let may_ask = disclosable(&rules.disclosure, session.shown) & !outside;
             self.counts.questions.sized(may_ask, asked);
+            let sets = (may_ask, asked);
+            let counts = &mut self.counts.weights;
+            counts.question(&self.policy, rules, &session, sets);
         }
     }
 

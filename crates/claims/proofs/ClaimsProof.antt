@@ -26,7 +26,9 @@ use Rattle.demands.proofs.ListLaws.{lists-mean}
 use Rattle.demands.proofs.LongestProof.{longest}
 use Rattle.demands.proofs.PromiseProof.{opening-promise, round-promise}
 use Rattle.demands.proofs.VisitProof.{always-sound, rounds-keep-sound, visits-mean}
+use Rattle.demands.proofs.WeightsProof.{weights-aside}
 use Rattle.marked.proofs.MarkedCases.{marked}
+use Rattle.marked.proofs.WeightedCases.{weighted}
 use Rattle.session.proofs.TheoremsProof as session
 use Rattle.replay.proofs.TheoremsProof as replay
 use Rattle.packing.proofs.TheoremsProof as packing
@@ -50,6 +52,7 @@ claims = record {
     breach-mark = refl;
     access = refl;
     disclosure = refl;
+    weight = refl;
     refused-6-at-0 = (refl, refl);
     refused-n-at-k = λ n k. (refl, refl);
   };
@@ -86,6 +89,8 @@ claims = record {
   visits = visits-mean;
   exported = packing.theorems;
   marked = marked;
+  weighted = weighted;
+  weights-aside = weights-aside;
   printed = transcript.theorems;
   steps = console.theorems;
   lines = lines.theorems;

@@ -1,28 +1,28 @@
 -- The theorems of the gate that a customer reads, on one page; proofs/ClaimsProof has them all (the search for C, crate `probe`, has its own). What
--- they leave to belief is that the words in which they are stated say what the paper says. These are, crate by crate:
+-- they leave to belief is that the words in which they are stated say what the papers say. These are, crate by crate:
 -- encoding: Bytes, bytesOf, littleEndian
 -- lists: Every, OneOf, Each, passed, Turn, run, last, reached
 -- validation: AllHold, FirstBroken, BrokenThere, DecideAll, relabelled, Unless, GivenExactly
 -- atoms: Member, bit, Subset
 -- rules: Rule, Policy, Headed, Levelled, Stratified, BodyHolds, ClosedBeside, Closed, Least, Stable, OneStable, Unlocks, Equivalent, byLevel,
---   ofLevel
--- records: Record, readRecord, recordAt, recordsBefore, recordsOf, rulesOf, policyOf, level, levelCount, Sized, writeRecords, withRecord, _if_not_,
---   disclose_if_
--- form: Refusal; the statements that PolicyForm lists, WellFormed, PolicyRefused; and Tested, Numbers, Written, RecordAllowed, Faulty, Ragged, which
---   say the same without the list; Gives
+--   ofLevel, weightAmong, weightIn, WeightTable
+-- records: Record, readRecord, recordAt, recordsBefore, recordsOf, rulesOf, policyOf, unweighted, level, levelCount, Sized, writeRecords, withRecord,
+--   _if_not_, disclose_if_, credential_weighing_
+-- form: Refusal, PolicyNumber; the statements that PolicyForm lists, WellFormed, PolicyRefused; and Tested, Numbers, Written, RecordAllowed,
+--   SecondWeight, Faulty, Ragged, which say the same without the list; Weighs, Weights; Gives
 -- arrays: rulesIn, Placed, KeepLevels, LaidOut, evaluated
 -- disclosure: Disclosable, Askable, Discloses, GivesDisclosable
 -- model: GivesModel
--- preference: Question, Preferred, PreferredOf, keys, candidates, opensIn; Before, First, Searched, Result, place, costOf, costIn, weightOf,
---   weightsOf, equalWeights, total, sum, Lighter, LightestOf, subsetOf, questionAt, questionFor; Members, Different, taken, switched
+-- preference: Question, Lighter, Preferred, PreferredOf, keysBy, candidates, preferredIn; Before, First, Searched, Result, place, costOf, weightOf,
+--   weightsOf, WeightsListed, total, sum, LightestOf, subsetOf, questionAt, questionFor; Members, Different, taken, switched
 -- relevance: Follows, Bearing, Relevant, SameOn, kept, keptLevels, KeptIn, SameAnswer
 -- rounds: Session, Move, showing, Ending, Refusal, Answer, Outcome; Service, SoundSession, SixteenBit, Finished, with their parts; opened, roundsOf;
 --   the statements that RoundForm lists, and RoundNumbers, which says the same without the list
 -- demands: Round, acceptedOf, SomeRound, SomeNext, Asks, Final, Over, ByRound; Demand1; Missing, FirstMissing, DeniedWhen, Demand2; Responds,
 --   sessionFrom and the other clauses of Demand3, askableCount, lackedCount, Licensed, Client, Admitted; FreshFor, Opening, AcceptedRound,
 --   RoundPromise, SoundAndFits, OpeningMeets, RoundMeets; Visit, Fitting, under, visitsOf, AlwaysSound; policyOn, visitOn, changing, asked, AtMost;
---   policyC, held, shownFirst, unlocking, turnsC, asking
--- marked: policyA, policyB, unlocksBy, turns, answers, lines, asking
+--   policyC, held, shownFirst, unlocking, turnsC, asking; SameButQuestions
+-- marked: policyA, policyB, unlocksBy, turns, answers, lines, asking; threeWays, askedInTurn
 -- replay: Calls, turnOf, movesOf
 -- packing: Packable, packed, unpacked, tenBytes, Call, openCall, roundCall, callsFrom, checkReply, setReply, setAfter, replyFor, callOf, Told with
 --   its parts, askedIn, and what Examples names
@@ -76,7 +76,9 @@ use Rattle.demands.specs.Demand3.{Demand3Holds}
 use Rattle.demands.specs.Lists.{ListsMean}
 use Rattle.demands.specs.Longest.{Longest}
 use Rattle.demands.specs.Promises.{AlwaysSound, Fitting, Opening, RoundPromise, RoundsKeepSound, Visit, VisitsMean}
+use Rattle.demands.specs.Weights.{WeightsAside}
 use Rattle.marked.specs.Marked.{Marked}
+use Rattle.marked.specs.Weighted.{Weighted}
 use Rattle.session.specs.Theorems as session
 use Rattle.replay.specs.Theorems as replay
 use Rattle.packing.specs.Theorems as packing
@@ -92,7 +94,7 @@ use Rattle.recording.specs.Theorems as recording
 use Rattle.claims.specs.Constants.{Constants}
 
 pub record Claims : Type 1 where
-  -- the paper's numbers
+  -- the papers' numbers
   pub constants : Constants
   -- numbers as bytes
   pub bytes : encoding.Theorems
@@ -104,7 +106,7 @@ pub record Claims : Type 1 where
   pub models : rules.Theorems
   -- what a record's writer writes is what its reader reads
   pub encoding : records.Theorems
-  -- demand 1, of the policy's test; and an accepted policy has one stable set over every set of credentials
+  -- demand 1, of the policy's test; an accepted policy has one stable set over every set of credentials; and what credentials weigh under it
   pub policies : form.Theorems
   -- what the answers of the policy's test mean is one-to-one
   pub checks : policy.Theorems
@@ -115,7 +117,7 @@ pub record Claims : Type 1 where
   pub disclosures : disclosure.Theorems
   -- the model of a policy, or its refusal
   pub answers : model.Theorems
-  -- the preferred question: which one it is, and that rules in arrays prefer the same
+  -- the preferred question: which one it is, and that rules in arrays and weights in a table prefer the same
   pub preferred : preference.Theorems
   -- candidates by number: their order by cost, their places, what a search with a limit answers, and that the first by cost is the preferred question
   pub orders : OrderTheorems
@@ -154,6 +156,9 @@ pub record Claims : Type 1 where
   -- the record of ten bytes and the replies from C, and demand 3 of calls from there
   pub exported : packing.Theorems
   pub marked : Marked
+  -- document 02, R-2: examples of weights, and what weights leave as it is
+  pub weighted : Weighted
+  pub weights-aside : WeightsAside
   -- what the bench program prints, from the bytes of two files, and that its steps print this
   pub printed : transcript.Theorems
   pub steps : console.Theorems

@@ -1,8 +1,8 @@
--- Document 01's own numbers, held against the names that stand for them. Assumes nothing.
+-- The papers' own numbers, held against the names that stand for them. Assumes nothing.
 use mathlib.Core.Path.{_≡_}
 use Prim.Native.Nat.{ℕ}
 use Rattle.atoms.specs.Atoms.{firstDerived, lastCredential, lastDerived, violation}
-use Rattle.records.specs.Records.{accessKind, disclosureKind}
+use Rattle.records.specs.Records.{accessKind, disclosureKind, weightKind}
 use Rattle.form.specs.WrittenForm.{at, recordNumber, refusalNumber}
 
 pub record Constants : Type 0 where
@@ -14,6 +14,8 @@ pub record Constants : Type 0 where
   -- "Byte 0 is the kind: 1 access, 2 disclosure."
   pub access : accessKind ≡ 1
   pub disclosure : disclosureKind ≡ 2
+  -- "A record of kind 3 gives a credential (head) a weight"
+  pub weight : weightKind ≡ 3
   -- "its number, and for the policy "at" with its record number, as "refused 6 at 0""
   pub refused-6-at-0 : (refusalNumber (at 6 0) ≡ 6) × (recordNumber (at 6 0) ≡ 0)
   pub refused-n-at-k : (n k : ℕ) → (refusalNumber (at n k) ≡ n) × (recordNumber (at n k) ≡ k)

@@ -1,3 +1,3 @@
--- What the customer reads: the paper's numbers, and every theorem on one page.
+-- What the customer reads: the papers' numbers, and every theorem on one page.
 pub mod Constants
 pub mod Claims

@@ -19,6 +19,7 @@ use Rattle.atoms.proofs.SetLaws.{member-low, not-in, subset-true}
 use Rattle.rules.specs.Unlocking.{Unlocks, unlocks}
 use Rattle.rules.specs.Model.{closureBy, consequences, model, passBy, times}
 use Rattle.rules.specs.Stable.{reduct}
+use Rattle.rules.specs.Weights.{weightAmong}
 use Rattle.records.specs.Policies.{policyOf}
 use Rattle.records.specs.Records.{ofKind, readRecord, recordsFrom, recordsOf, rulesOf}
 use Rattle.records.specs.Writing.{_if_not_, disclose_if_, writeRecord}
@@ -30,6 +31,7 @@ use Rattle.disclosure.proofs.DisclosureLaws.{disclosable-iff}
 use Rattle.disclosure.specs.Disclosure.{Disclosable, askable, disclosable}
 use Rattle.preference.specs.Preference.{lexBefore, preferred, subsets}
 use Rattle.preference.specs.Question.{candidates, chosen}
+use Rattle.preference.specs.Weights.{totalIn}
 use Rattle.preference.proofs.SubsetLaws.{subsets-all}
 use Rattle.rounds.specs.RoundTest.{roundRefusal, sessionRefusal}
 use Rattle.rounds.specs.Endings.{ending}
@@ -43,7 +45,7 @@ use Rattle.demands.proofs.SeventeenProof.{byteTest, test-bytes}
 computed : Unit {0}
 unfolding _if_not_ disclose_if_ writeRecord bytesOf setOf littleEndian readRecord forAtoms accessLevels firstFailed relabelled testsFrom policyTests
     policyRefusal orElse recordsFrom recordsOf ofKind rulesOf reduct times passBy closureBy consequences model disclosable askable unlocks
-    onesIn size subsets lexBefore preferred candidates chosen ending worked sessionRefusal roundRefusal round run acceptedOf Each reply
+    onesIn size subsets lexBefore preferred candidates chosen totalIn weightAmong ending worked sessionRefusal roundRefusal round run acceptedOf Each reply
     byteTest policyC turnsC
 computed = tt
 

@@ -13,3 +13,4 @@ pub mod VisitProof
 pub mod SeventeenProof
 pub mod LongestProof
 pub mod AdmittanceProof
+pub mod WeightsProof

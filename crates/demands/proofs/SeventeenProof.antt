@@ -19,12 +19,14 @@ use Rattle.atoms.specs.Sets.{setOf, size}
 use Rattle.rules.specs.Unlocking.{unlocks}
 use Rattle.rules.specs.Model.{closureBy, consequences, model, passBy, times}
 use Rattle.rules.specs.Stable.{reduct}
+use Rattle.rules.specs.Weights.{weightAmong}
 use Rattle.records.specs.Records.{ofKind, readRecord, recordsFrom, recordsOf, rulesOf}
 use Rattle.records.specs.Writing.{_if_not_, disclose_if_, writeRecord}
 use Rattle.form.specs.PolicyTest.{accessLevels, forAtoms, policyTests, testsFrom}
 use Rattle.disclosure.specs.Disclosure.{disclosable}
 use Rattle.preference.specs.Preference.{lexBefore, preferred, subsets}
 use Rattle.preference.specs.Question.{candidates, chosen}
+use Rattle.preference.specs.Weights.{totalIn}
 use Rattle.rounds.specs.RoundTest.{openingTests, roundRefusal, sessionRefusal}
 use Rattle.rounds.specs.Endings.{ending}
 use Rattle.rounds.specs.Rounds.{opening, round, worked}
@@ -50,7 +52,7 @@ test-bytes (b ∷ bs) e = let h = and-true (ltb b 256) (byteTest bs) e in (decid
 computed : Unit {0}
 unfolding _if_not_ disclose_if_ writeRecord bytesOf setOf littleEndian readRecord forAtoms accessLevels firstFailed relabelled testsFrom policyTests
     orElse recordsFrom recordsOf ofKind rulesOf reduct times passBy closureBy consequences model disclosable unlocks onesIn size subsets
-    lexBefore preferred candidates chosen ending worked openingTests sessionRefusal roundRefusal round run opening acceptedOf inTurn policyOn
+    lexBefore preferred candidates chosen totalIn weightAmong ending worked openingTests sessionRefusal roundRefusal round run opening acceptedOf inTurn policyOn
     byteTest
 computed = tt
 

@@ -1,5 +1,5 @@
--- Demand 2, of an ending e where P is shown and N declined. Nothing here computes: unlocking is by stable sets, disclosure by least closed sets.
--- Assumes nothing.
+-- Demand 2, of an ending e where P is shown and N declined. Nothing here computes but weights and sizes: unlocking is by stable sets, disclosure by
+-- least closed sets. Assumes nothing.
 use mathlib.Core.Path.{_≡_}
 use mathlib.Core.Logic.{_↔_, _≢_}
 use Prim.Native.Nat.{ℕ}
@@ -18,8 +18,7 @@ pub record Missing (pol : Policy) (r P N : ℕ) (q : Question) : Type 0 where
   pub undeclined : (k : ℕ) → Member k (q .asks) → Member k N → ⊥
   pub opens : Unlocks pol r (union P (q .asks))
 
--- "The preferred set has the fewest credentials, counted as one bits; among those, the smallest as a number.": q is such a set, and preferred to every
--- other
+-- "The preferred set has the least total weight, then the fewest credentials, then the smallest number.": q is such a set, and preferred to every other
 pub record FirstMissing (pol : Policy) (r P N : ℕ) (q : Question) : Type 0 where
   pub missing : Missing pol r P N q
   pub first : (x : Question) → Missing pol r P N x → x ≢ q → Preferred pol q x

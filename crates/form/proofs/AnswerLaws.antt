@@ -2,13 +2,13 @@
 use mathlib.Core.Path.{_≡_, refl, subst, sym}
 use mathlib.Core.List.{List}
 use mathlib.Core.Option.{some}
-use Prim.Native.Nat.{_≤_, ℕ}
+use Prim.Native.Nat.{ℕ}
 use Rattle.encoding.specs.LittleEndian.{Bytes}
 use Rattle.validation.specs.Unless.{GivenExactly, Unless, unless}
 use Rattle.validation.proofs.UnlessLaws.{given-exactly}
 use Rattle.form.specs.Answers.{Gives}
 use Rattle.form.specs.PolicyTest.{policyRefusal}
-use Rattle.form.specs.WrittenForm.{PolicyRefused, Refusal, WellFormed, at, refusalNumber}
+use Rattle.form.specs.WrittenForm.{PolicyNumber, PolicyRefused, Refusal, WellFormed, at, refusalNumber}
 use Rattle.form.proofs.TheoremsProof.{theorems}
 
 -- S is what is Right of an accepted policy, and nothing else is
@@ -23,7 +23,7 @@ gives bytes b Right S right only = record { exactly = exactly; numbers = λ f e.
     refused : (f : Refusal) → PolicyRefused bytes f → policyRefusal bytes ≡ some f
     refused f = theorems .tested bytes b .refuses f .1
 
-    numbered : (f : Refusal) → policyRefusal bytes ≡ some f → (1 ≤ refusalNumber f) × (refusalNumber f ≤ 6)
+    numbered : (f : Refusal) → policyRefusal bytes ≡ some f → PolicyNumber (refusalNumber f)
     numbered (at n k) e = theorems .numbers bytes b .only n k e
 
 -- the defined answer has its meaning, and the bytes are as they were

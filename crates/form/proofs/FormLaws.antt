@@ -9,8 +9,9 @@ use Rattle.validation.specs.Statements.{AllHold, FirstBroken}
 use Rattle.validation.specs.Tests.{relabelled}
 use Rattle.validation.proofs.FirstLaws.{broken-append, broken-relabelled, hold-relabelled}
 use Rattle.records.specs.Records.{Record, recordAt, recordsFrom, wholeRecords}
-use Rattle.form.specs.Theorems.{RecordAllowed}
-use Rattle.form.specs.WrittenForm.{Lengths, PolicyForm, PolicyRefused, RecordForm, RecordForms, Refusal, WholeForm, at}
+use Rattle.form.specs.Theorems.{RecordAllowed, SecondWeight}
+use Rattle.form.specs.WrittenForm.{FirstWeight, Lengths, PolicyForm, PolicyRefused, RecordForm, RecordForms, Refusal, WholeForm, at}
+use Rattle.form.proofs.WeightLaws.{first-iff}
 
 pub number-is : {n k m j : ℕ} → at n k ≡ at m j → n ≡ m
 number-is e = cc
@@ -20,11 +21,8 @@ place-is e = cc
 
 -- ---- one record
 
-pub allowed-iff : (before : List Record) (d : Record) → AllHold (RecordForm before d) ↔ RecordAllowed d
-allowed-iff before d = (
-  λ (k, (h, (b, (l, _)))). record { kind = k; head = h; body = b; levels = l },
-  λ r. (r .kind, (r .head, (r .body, (r .levels, tt)))),
-)
+allowed-iff : (before : List Record) (d : Record) → AllHold (RecordForm before d) ↔ (RecordAllowed d × FirstWeight before d)
+allowed-iff before d = (λ h. search h, λ h. search h)
 
 module _ (bytes : List ℕ) where
   abbrev pub FormAt : ℕ → List (Type 0 × ℕ)
@@ -32,6 +30,13 @@ module _ (bytes : List ℕ) where
 
   abbrev pub labelled : ℕ → List (Type 0 × Refusal)
   labelled k = relabelled (λ m. at m k) (FormAt k)
+
+  -- record k is allowed, and gives no second weight
+  pub form-iff : (k : ℕ) → AllHold (FormAt k) ↔ (RecordAllowed (recordAt bytes k) × ((j : ℕ) → j < k → SecondWeight bytes j k → ⊥))
+  form-iff k =
+      let i = allowed-iff (recordsFrom bytes 0 k) (recordAt bytes k) in
+      let f = first-iff bytes k in
+      (λ h. let (r, x) = i .0 h in (r, f .0 x), λ (r, x). i .1 (r, f .1 x))
 
   -- ---- record k and those after it, n in all
 

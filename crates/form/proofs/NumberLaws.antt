@@ -1,26 +1,70 @@
 -- When each number is given. Assumes nothing.
 use mathlib.Core.Path.{_≡_, ap, refl, subst, sym}
-use mathlib.Core.Logic.{_↔_, _⊎_, inl, inr}
-use mathlib.Core.List.{List, []}
+use mathlib.Core.Logic.{_↔_, _⊎_, _≢_, inl, inr}
+use mathlib.Core.List.{List}
 use mathlib.Core.Option.{Option, some}
 use Prim.Native.Nat.{_<_, _≤_, ℕ}
 use lib.ListN.{length}
+use native.Mathlib.Decide.{decLt}
 use native.Mathlib.Nat.{lt-of-not-le}
 use native.Mathlib.Omega.{arith}
 use Rattle.validation.specs.Statements.{AllHold, FirstBroken}
 use Rattle.validation.proofs.NumberLaws.{BrokenAt, Rising, broken-at, broken-every, number-least, numberAt}
-use Rattle.records.specs.Records.{Record, recordAt, recordsFrom, wholeRecords}
-use Rattle.form.specs.Theorems.{Faulty, Numbers, Ragged, Tested}
-use Rattle.form.specs.WrittenForm.{Lengths, PolicyRefused, RecordForm, Refusal, at}
-use Rattle.form.proofs.FormLaws.{FirstFrom, FormAt, allowed-iff, number-is, place-is, refused-iff}
+use Rattle.atoms.specs.Atoms.{lastCredential}
+use Rattle.atoms.specs.Sets.{Member, empty}
+use Rattle.atoms.proofs.SetLaws.{none-in-empty, none-is-empty}
+use Rattle.rules.specs.Rules.{Rule}
+use Rattle.records.specs.Records.{Record, recordAt, recordsFrom, weightKind, wholeRecords}
+use Rattle.form.specs.Theorems.{Faulty, Numbers, Ragged, RecordAllowed, SecondWeight, Tested}
+use Rattle.form.specs.WrittenForm.{Lengths, PolicyNumber, PolicyRefused, RecordForm, Refusal, WeightBody, at}
+use Rattle.form.proofs.FormLaws.{FirstFrom, FormAt, form-iff, number-is, place-is, refused-iff}
+use Rattle.form.proofs.WeightLaws.{second-iff}
 
 rising : (before : List Record) (d : Record) → Rising 3 (RecordForm before d)
-rising before d = (omega arith, (omega arith, (omega arith, (omega arith, tt))))
+rising before d = (omega arith, (omega arith, (omega arith, (omega arith, (omega arith, (omega arith, tt))))))
 
--- a record gives 3 to 6
-record-number : (before : List Record) (d : Record) (n : ℕ) → FirstBroken (RecordForm before d) n → (3 ≤ n) × (n ≤ 6)
-record-number before d =
-    broken-every (λ n. (3 ≤ n) × (n ≤ 6)) (RecordForm before d) (omega arith, (omega arith, (omega arith, (omega arith, tt))))
+-- a record gives 3 to 6, 12 and 13
+record-number : (before : List Record) (d : Record) (n : ℕ) → FirstBroken (RecordForm before d) n → (3 ≤ n) × PolicyNumber n
+record-number before d = broken-every (λ n. (3 ≤ n) × PolicyNumber n) (RecordForm before d) (
+  low (omega arith),
+  (
+    low (omega arith),
+    (low (omega arith), (low (omega arith), ((omega arith, inr (inl refl)), ((omega arith, inr (inr refl)), tt)))),
+  ),
+)
+  where
+    low : {n : ℕ} → (3 ≤ n) × (n ≤ 6) → (3 ≤ n) × PolicyNumber n
+    low (l, m) = (l, inl (omega arith, m))
+
+-- where 12 is the first number that a record breaks, by its form and spelled out
+weight-broken : (before : List Record) (d : Record) → BrokenAt (RecordForm before d) 4
+    ↔ ((d .kind ≡ weightKind) × ((d .rule .head ≤ lastCredential) × ((15 < d .rule .positive) ⊎ (d .rule .negated ≢ empty))))
+weight-broken before d = (forth, back)
+  where
+    r : Rule
+    r = d .rule
+
+    over : (WeightBody r → ⊥) → Dec (15 < r .positive) → (15 < r .positive) ⊎ (r .negated ≢ empty)
+    over n (yes l) = inl l
+    over n (no l) = inr (λ e. n (omega arith, λ k m. none-in-empty k (subst (λ (s : ℕ). Member k s) e m)))
+
+    forth : BrokenAt (RecordForm before d) 4 → (d .kind ≡ weightKind) × ((r .head ≤ lastCredential) × ((15 < r .positive) ⊎ (r .negated ≢ empty)))
+    forth (inl e, (_, (_, (_, n)))) = absurd (n (λ w. absurd (omega arith)))
+    forth (inr (inl e), (_, (_, (_, n)))) = absurd (n (λ w. absurd (omega arith)))
+    forth (inr (inr e), (h, (_, (_, n)))) = (e, (h .1 .1 e, over (λ b. n (λ _. b)) (decLt 15 (r .positive))))
+
+    under : (15 < r .positive) ⊎ (r .negated ≢ empty) → WeightBody r → ⊥
+    under (inl l) b = omega (arith, b .0)
+    under (inr n) b = n (none-is-empty (r .negated) (b .1))
+
+    back : (d .kind ≡ weightKind) × ((r .head ≤ lastCredential) × ((15 < r .positive) ⊎ (r .negated ≢ empty))) → BrokenAt (RecordForm before d) 4
+    back (e, (h, o)) = (
+      inr (inr e),
+      (
+        (λ a. absurd (omega arith), (λ b. absurd (omega arith), λ _. h)),
+        ((λ a. absurd (omega arith), λ b. absurd (omega arith)), (λ a. absurd (omega arith), λ w. under o (w e))),
+      ),
+    )
 
 module _ (bytes : List ℕ) where
   -- a length gives 1 and 2
@@ -41,7 +85,7 @@ module _ (bytes : List ℕ) where
       forth (inl (inl (h, e))) = (lt-of-not-le h, place-is e)
       forth (inl (inr (_, inl (_, e)))) = absurd (omega (arith, number-is e))
       forth (inl (inr (_, inr (_, x)))) = absurd x
-      forth (inr (_, x)) = absurd (omega (arith, record-number (recordsFrom bytes 0 k) (recordAt bytes k) 1 (x .broken)))
+      forth (inr (_, x)) = absurd (omega (arith, record-number (recordsFrom bytes 0 k) (recordAt bytes k) 1 (x .broken) .0))
 
   two-given : (k : ℕ) → PolicyRefused bytes (at 2 k) ↔ Ragged bytes k
   two-given k = (λ x. forth (refused-iff bytes 2 k .0 x), λ x. refused-iff bytes 2 k .1 (inl (inr (x .longest, inl (x .ragged, ap (at 2) (place x))))))
@@ -55,12 +99,12 @@ module _ (bytes : List ℕ) where
           let p = place-is e in
           record { longest = l; ragged = h; whole-ones = omega (arith, p); no-more = omega (arith, p) }
       forth (inl (inr (_, inr (_, x)))) = absurd x
-      forth (inr (_, x)) = absurd (omega (arith, record-number (recordsFrom bytes 0 k) (recordAt bytes k) 2 (x .broken)))
+      forth (inr (_, x)) = absurd (omega (arith, record-number (recordsFrom bytes 0 k) (recordAt bytes k) 2 (x .broken) .0))
 
-  -- the number of the statement at place i of a record's form
-  record-given : (i : ℕ) → i < 4 → (n : ℕ) → ((before : List Record) (d : Record) → numberAt (RecordForm before d) i ≡ n) → (k : ℕ)
-      → PolicyRefused bytes (at n k) ↔ Faulty bytes k (λ d. BrokenAt (RecordForm [] d) i)
-  record-given i l n e k = (λ x. forth (refused-iff bytes n k .0 x), λ x. refused-iff bytes n k .1 (inr (back x)))
+  -- the number of the statement at place i of a record's form, where Broken says that this is the first that does not hold
+  record-given : (i : ℕ) → i < 6 → (n : ℕ) → ((before : List Record) (d : Record) → numberAt (RecordForm before d) i ≡ n) → (k : ℕ)
+      → (Broken : Record → Type 0) → BrokenAt (FormAt bytes k) i ↔ Broken (recordAt bytes k) → PolicyRefused bytes (at n k) ↔ Faulty bytes k Broken
+  record-given i l n e k Broken says = (λ x. forth (refused-iff bytes n k .0 x), λ x. refused-iff bytes n k .1 (inr (back x)))
     where
       before : List Record
       before = recordsFrom bytes 0 k
@@ -71,30 +115,48 @@ module _ (bytes : List ℕ) where
       given : FirstBroken (FormAt bytes k) (numberAt (FormAt bytes k) i) ↔ BrokenAt (FormAt bytes k) i
       given = broken-at 3 (FormAt bytes k) (rising before d) i l
 
-      forth : Given n k → Faulty bytes k (λ d. BrokenAt (RecordForm [] d) i)
+      forth : Given n k → Faulty bytes k Broken
       forth (inl x) = absurd (omega (arith, length-number n k x, e before d, number-least 3 (FormAt bytes k) (rising before d) i l))
       forth (inr (h, x)) = record {
         longest = h .0;
         whole = h .1 .0;
         inside = omega (arith, x .inside);
-        before = λ j l. allowed-iff (recordsFrom bytes 0 j) (recordAt bytes j) .0 (x .before j (omega arith) l);
-        broken = given .0 (subst (FirstBroken (FormAt bytes k)) (sym (e before d)) (x .broken));
+        before = λ j l. form-iff bytes j .0 (x .before j (omega arith) l) .0;
+        weighed-once = λ i j h l. form-iff bytes j .0 (x .before j (omega arith) l) .1 i h;
+        broken = says .0 (given .0 (subst (FirstBroken (FormAt bytes k)) (sym (e before d)) (x .broken)));
       }
 
-      back : Faulty bytes k (λ d. BrokenAt (RecordForm [] d) i) → AllHold (Lengths bytes) × FirstFrom bytes 0 (wholeRecords bytes) n k
+      back : Faulty bytes k Broken → AllHold (Lengths bytes) × FirstFrom bytes 0 (wholeRecords bytes) n k
       back x = (
         (x .longest, (x .whole, tt)),
         record {
           from = omega arith;
           inside = omega (arith, x .inside);
-          before = λ j _ l. allowed-iff (recordsFrom bytes 0 j) (recordAt bytes j) .1 (x .before j l);
-          broken = subst (FirstBroken (FormAt bytes k)) (e before d) (given .1 (x .broken));
+          before = λ j _ l. form-iff bytes j .1 (x .before j l, λ i h. x .weighed-once i j h l);
+          broken = subst (FirstBroken (FormAt bytes k)) (e before d) (given .1 (says .1 (x .broken)));
         },
       )
 
-  only-given : (n k : ℕ) → Given n k → (1 ≤ n) × (n ≤ 6)
-  only-given n k (inl x) = omega (arith, length-number n k x)
-  only-given n k (inr (_, x)) = omega (arith, record-number (recordsFrom bytes 0 k) (recordAt bytes k) n (x .broken))
+  -- where 13 is the first number that record k breaks
+  second-broken : (k : ℕ) → BrokenAt (FormAt bytes k) 5 ↔ (RecordAllowed (recordAt bytes k) × ((j : ℕ) × (j < k) × SecondWeight bytes j k))
+  second-broken k =
+      let i = second-iff bytes k in (
+        λ (a, (h, (b, (l, (w, n))))). (record { kind = a; head = h; body = b; levels = l; weight = w }, i .0 n),
+        λ (r, s). (r .kind, (r .head, (r .body, (r .levels, (r .weight, i .1 s))))),
+      )
+
+  only-given : (n k : ℕ) → Given n k → PolicyNumber n
+  only-given n k (inl x) = let l = length-number n k x in inl (l .0, omega (arith, l .1))
+  only-given n k (inr (_, x)) = record-number (recordsFrom bytes 0 k) (recordAt bytes k) n (x .broken) .1
+
+  -- a refusal's number is a byte, and not 0
+  pub small-number : (n k : ℕ) → PolicyRefused bytes (at n k) → (1 ≤ n) × (n ≤ 13)
+  small-number n k x = go (only-given n k (refused-iff bytes n k .0 x))
+    where
+      go : PolicyNumber n → (1 ≤ n) × (n ≤ 13)
+      go (inl h) = (h .0, omega (arith, h .1))
+      go (inr (inl e)) = omega arith
+      go (inr (inr e)) = omega arith
 
   -- a record number is a byte
   pub small-place : (n k : ℕ) → PolicyRefused bytes (at n k) → k < 256
@@ -110,12 +172,18 @@ module _ (bytes : List ℕ) where
   numbers o t = record {
     one = λ k. through (at 1 k) (one-given k);
     two = λ k. through (at 2 k) (two-given k);
-    three = λ k. through (at 3 k) (record-given 0 (omega arith) 3 (λ before d. refl) k);
-    four = λ k. through (at 4 k) (record-given 1 (omega arith) 4 (λ before d. refl) k);
-    five = λ k. through (at 5 k) (record-given 2 (omega arith) 5 (λ before d. refl) k);
-    six = λ k. through (at 6 k) (record-given 3 (omega arith) 6 (λ before d. refl) k);
+    three = λ k. through (at 3 k) (record-given 0 (omega arith) 3 (λ before d. refl) k _ same);
+    four = λ k. through (at 4 k) (record-given 1 (omega arith) 4 (λ before d. refl) k _ same);
+    five = λ k. through (at 5 k) (record-given 2 (omega arith) 5 (λ before d. refl) k _ same);
+    six = λ k. through (at 6 k) (record-given 3 (omega arith) 6 (λ before d. refl) k _ same);
+    twelve = λ k. through (at 12 k)
+        (record-given 4 (omega arith) 12 (λ before d. refl) k _ (weight-broken (recordsFrom bytes 0 k) (recordAt bytes k)));
+    thirteen = λ k. through (at 13 k) (record-given 5 (omega arith) 13 (λ before d. refl) k _ (second-broken k));
     only = λ n k e. only-given n k (refused-iff bytes n k .0 (t .refuses (at n k) .0 e));
   }
     where
+      same : {K : Type 0} → K ↔ K
+      same = (λ h. h, λ h. h)
+
       through : {K : Type 0} (f : Refusal) → PolicyRefused bytes f ↔ K → (o ≡ some f) ↔ K
       through f i = (λ e. i .0 (t .refuses f .0 e), λ h. t .refuses f .1 (i .1 h))

@@ -1,5 +1,5 @@
 -- An accepted policy: how many records it has at most; its access rules keep the levels, so they have one stable set over every set of credentials;
--- what the heads and bodies of its rules are. Assumes nothing.
+-- what the heads and bodies of its rules and its weights are. Assumes nothing.
 use mathlib.Core.Path.{_≡_}
 use mathlib.Core.Logic.{_↔_, inl, inr}
 use mathlib.Core.Bool.{true}
@@ -17,11 +17,12 @@ use Rattle.rules.specs.Unlocking.{Unlocks, unlocks}
 use Rattle.rules.proofs.TheoremsProof as rules
 use Rattle.records.specs.Levels.{level}
 use Rattle.records.specs.Policies.{policyOf}
-use Rattle.records.specs.Records.{accessKind, disclosureKind, recordAt, wholeRecords}
+use Rattle.records.specs.Records.{accessKind, disclosureKind, recordAt, weightKind, wholeRecords}
 use Rattle.records.proofs.ReadLaws.{record-sized}
 use Rattle.records.proofs.RuleLaws.{every-rule}
-use Rattle.form.specs.Theorems.{RecordAllowed}
+use Rattle.form.specs.Theorems.{RecordAllowed, Weights}
 use Rattle.form.specs.WrittenForm.{DisclosureBody, KindAllowed, WellFormed}
+use Rattle.form.proofs.WeightLaws.{weights}
 use Rattle.form.proofs.WrittenLaws.{written-iff}
 
 pub most-bytes : (bytes : List ℕ) → WellFormed bytes → length bytes ≤ 2304
@@ -42,7 +43,16 @@ head-atom bytes w j l = go (r .kind)
 
     go : KindAllowed (recordAt bytes j) → recordAt bytes j .rule .head ≤ violation
     go (inl e) = r .head .0 e .1
-    go (inr e) = omega (arith, r .head .1 e)
+    go (inr (inl e)) = omega (arith, r .head .1 .0 e)
+    go (inr (inr e)) = omega (arith, r .head .1 .1 e)
+
+-- a weight is one of a credential, and at most 15
+pub weight-record : (bytes : List ℕ) → WellFormed bytes → (j : ℕ) → j < wholeRecords bytes → recordAt bytes j .kind ≡ weightKind
+    → (recordAt bytes j .rule .head ≤ lastCredential) × (recordAt bytes j .rule .positive ≤ 15)
+weight-record bytes w j l e = let r = allowed-at bytes w j l in (r .head .1 .1 e, r .weight e .0)
+
+pub policy-weights : (bytes : List ℕ) → WellFormed bytes → Weights bytes
+policy-weights bytes w = weights bytes (written-iff bytes .0 w)
 
 module _ (bytes : List ℕ) (b : Bytes bytes) (w : WellFormed bytes) where
   allowed : (j : ℕ) → j < wholeRecords bytes → RecordAllowed (recordAt bytes j)
@@ -60,7 +70,7 @@ module _ (bytes : List ℕ) (b : Bytes bytes) (w : WellFormed bytes) where
 
   -- its disclosure rules have credentials as heads, and bodies of credentials alone
   pub disclosure-heads : Every (λ r. r .head ≤ lastCredential) (policyOf bytes .disclosure)
-  disclosure-heads = every-rule disclosureKind bytes (λ r. r .head ≤ lastCredential) .1 (λ j l e. allowed j l .head .1 e)
+  disclosure-heads = every-rule disclosureKind bytes (λ r. r .head ≤ lastCredential) .1 (λ j l e. allowed j l .head .1 .0 e)
 
   pub disclosure-bodies : Every DisclosureBody (policyOf bytes .disclosure)
   disclosure-bodies = every-rule disclosureKind bytes DisclosureBody .1 (λ j l e. allowed j l .body .1 e)

@@ -7,10 +7,10 @@ use native.Mathlib.Nat.{eq-or-lt-of-le}
 use native.Mathlib.Omega.{arith}
 use Rattle.validation.specs.Statements.{AllHold}
 use Rattle.validation.proofs.FirstLaws.{hold-append, hold-relabelled}
-use Rattle.records.specs.Records.{recordAt, recordsFrom, wholeRecords}
+use Rattle.records.specs.Records.{wholeRecords}
 use Rattle.form.specs.Theorems.{Written}
 use Rattle.form.specs.WrittenForm.{Lengths, PolicyForm, RecordForms, WellFormed, WholeForm, at}
-use Rattle.form.proofs.FormLaws.{FormAt, allowed-iff, labelled}
+use Rattle.form.proofs.FormLaws.{FormAt, form-iff, labelled}
 
 module _ (bytes : List ℕ) where
   -- record k and those after it, n in all
@@ -56,14 +56,15 @@ module _ (bytes : List ℕ) where
           record {
             longest = h .0 .0;
             whole = h .0 .1 .0;
-            records = λ k l. allowed-iff (recordsFrom bytes 0 k) (recordAt bytes k) .0 (f k (omega arith) (omega arith));
+            records = λ k l. form-iff bytes k .0 (f k (omega arith) (omega arith)) .0;
+            weighed-once = λ j k i l. form-iff bytes k .0 (f k (omega arith) (omega arith)) .1 j i;
           }
 
       back : Written bytes → AllHold (PolicyForm bytes)
       back w = lengths .1 (
         (w .longest, (w .whole, tt)),
         records .1 (
-          from-hold 0 (wholeRecords bytes) .1 (λ j _ l. allowed-iff (recordsFrom bytes 0 j) (recordAt bytes j) .1 (w .records j (omega arith))),
+          from-hold 0 (wholeRecords bytes) .1 (λ k _ l. form-iff bytes k .1 (w .records k (omega arith), λ j i. w .weighed-once j k i (omega arith))),
           tt,
         ),
       )

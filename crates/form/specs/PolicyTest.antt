@@ -1,7 +1,7 @@
--- Document 01, "Who can be turned back": the policy's test, computed. specs/Theorems says that it accepts exactly the written form and gives every
--- other policy its refusal. Assumes nothing.
+-- Document 01, "Who can be turned back", and document 02, R-2: the policy's test, computed. specs/Theorems says that it accepts exactly the written form
+-- and gives every other policy its refusal. Assumes nothing.
 use mathlib.Core.Path.{_≡_}
-use mathlib.Core.Bool.{Bool, _&&_, _||_, cond, not, true}
+use mathlib.Core.Bool.{Bool, _&&_, _||_, cond, false, not, true}
 use mathlib.Core.List.{List, [], _++_, _∷_}
 use mathlib.Core.Option.{Option}
 use Prim.Native.Nat.{_%_, _^_, suc, zero, ℕ}
@@ -12,7 +12,7 @@ use Rattle.atoms.specs.Atoms.{firstDerived, lastCredential, violation}
 use Rattle.atoms.specs.Sets.{empty, member}
 use Rattle.rules.specs.Rules.{Rule}
 use Rattle.records.specs.Levels.{level}
-use Rattle.records.specs.Records.{Record, accessKind, disclosureKind, recordAt, recordsBefore, wholeRecords}
+use Rattle.records.specs.Records.{Record, accessKind, disclosureKind, recordAt, recordsBefore, weightKind, wholeRecords}
 use Rattle.form.specs.WrittenForm.{Refusal, at}
 
 -- ---- the tests of a record
@@ -21,9 +21,9 @@ use Rattle.form.specs.WrittenForm.{Refusal, at}
 abbrev pub accessHead : Rule → Bool
 accessHead r = leb firstDerived (r .head) && leb (r .head) violation
 
--- "A disclosure head is 0 to 15"
-abbrev pub disclosureHead : Rule → Bool
-disclosureHead r = leb (r .head) lastCredential
+-- "A disclosure head is 0 to 15"; kind 3 "has heads 0 to 15 by 4"
+abbrev pub credentialHead : Rule → Bool
+credentialHead r = leb (r .head) lastCredential
 
 -- "Atom 63 stands in no body."
 abbrev pub accessBody : Rule → Bool
@@ -44,17 +44,28 @@ accessLevels r =
     forAtoms 64 (r .positive) (λ a. leb (level a) (level (r .head)))
     && forAtoms 64 (r .negated) (λ a. ltb (level a) (level (r .head)))
 
--- a of an access record, b of a disclosure record
-abbrev pub byKind : Record → Bool → Bool → Bool
-byKind d a b = cond (eqb (d .kind) accessKind) a (cond (eqb (d .kind) disclosureKind) b true)
+-- "12, weight above 15 or negated set not empty": neither
+abbrev pub weightBody : Rule → Bool
+weightBody r = leb (r .positive) 15 && eqb (r .negated) empty
+
+-- one of the records gives credential k a weight
+unfoldable pub weighs : ℕ → List Record → Bool
+weighs k [] = false
+weighs k (d ∷ ds) = (eqb (d .kind) weightKind && eqb (d .rule .head) k) || weighs k ds
+
+-- a of an access record, b of a disclosure record, c of a weight
+abbrev pub byKind : Record → Bool → Bool → Bool → Bool
+byKind d a b c = cond (eqb (d .kind) accessKind) a (cond (eqb (d .kind) disclosureKind) b (cond (eqb (d .kind) weightKind) c true))
 
 -- the tests of the record d in order, after the records `before`, each beside its number
 abbrev pub recordTests : List Record → Record → List (Bool × ℕ)
 recordTests before d =
-    (eqb (d .kind) accessKind || eqb (d .kind) disclosureKind, 3)
-    ∷ (byKind d (accessHead (d .rule)) (disclosureHead (d .rule)), 4)
-    ∷ (byKind d (accessBody (d .rule)) (disclosureBody (d .rule)), 5)
-    ∷ (byKind d (accessLevels (d .rule)) true, 6)
+    (eqb (d .kind) accessKind || (eqb (d .kind) disclosureKind || eqb (d .kind) weightKind), 3)
+    ∷ (byKind d (accessHead (d .rule)) (credentialHead (d .rule)) (credentialHead (d .rule)), 4)
+    ∷ (byKind d (accessBody (d .rule)) (disclosureBody (d .rule)) true, 5)
+    ∷ (byKind d (accessLevels (d .rule)) true true, 6)
+    ∷ (byKind d true true (weightBody (d .rule)), 12)
+    ∷ (byKind d true true (not (weighs (d .rule .head) before)), 13)
     ∷ []
 
 -- ---- the tests of a policy, in the order of PolicyForm
@@ -67,9 +78,13 @@ lengthTests bytes = (leb (length bytes) 2304, at 1 128) ∷ (eqb (length bytes %
 abbrev pub atRecord : ℕ → List (Bool × ℕ) → List (Bool × Refusal)
 atRecord k ts = relabelled (λ m. at m k) ts
 
--- o is the refusal of record k, which says d, whatever records come before it
-abbrev pub AnswersRecord : Record → ℕ → Option Refusal → Type 0
-AnswersRecord d k o = (before : List Record) → o ≡ firstFailed (atRecord k (recordTests before d))
+-- s has the credentials that the records weigh, and no others
+abbrev pub Weighed : List Record → ℕ → Type 0
+Weighed ds s = (k : ℕ) → member k s ≡ weighs k ds
+
+-- o is the refusal of record k, which says d, whatever records come before it, if they weigh the credentials in s and no others
+abbrev pub AnswersRecord : ℕ → Record → ℕ → Option Refusal → Type 0
+AnswersRecord s d k o = (before : List Record) → Weighed before s → o ≡ firstFailed (atRecord k (recordTests before d))
 
 -- the tests of record k
 abbrev pub testsAt : List ℕ → ℕ → List (Bool × Refusal)

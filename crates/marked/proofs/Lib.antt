@@ -1,2 +1,3 @@
--- The proofs of the marked cases.
+-- The proofs of the marked cases and of the examples of weights.
 pub mod MarkedCases
+pub mod WeightedCases

@@ -14,6 +14,7 @@ use Rattle.validation.specs.Tests.{firstFailed, relabelled}
 use Rattle.atoms.specs.Sets.{Member, Subset, empty, setOf, size, union}
 use Rattle.atoms.proofs.SetLaws.{empty-subset, member-low, none-in-empty, subset-antisym, subset-true, union-cases, union-least, union-left}
 use Rattle.rules.specs.Unlocking.{Unlocks, unlocks}
+use Rattle.rules.specs.Weights.{weightAmong}
 use Rattle.rules.specs.Model.{closureBy, consequences, model, passBy, times}
 use Rattle.rules.specs.Stable.{Closed, reduct}
 use Rattle.records.specs.Policies.{policyOf}
@@ -29,6 +30,7 @@ use Rattle.disclosure.specs.Answers.{disclosableAnswer}
 use Rattle.model.specs.Answers.{modelAnswer}
 use Rattle.preference.specs.Preference.{lexBefore, preferred, subsets}
 use Rattle.preference.specs.Question.{Question, candidates, chosen}
+use Rattle.preference.specs.Weights.{totalIn}
 use Rattle.rounds.specs.RoundTest.{openingTests, roundRefusal, sessionRefusal}
 use Rattle.rounds.specs.Endings.{Ending, deny, ending}
 use Rattle.rounds.specs.Rounds.{ends, opening, round, worked}
@@ -43,7 +45,7 @@ use Rattle.marked.specs.Marked.{Marked, Witness, answers, lines, policyA
 computed : Unit {0}
 unfolding _if_not_ disclose_if_ writeRecord bytesOf setOf littleEndian readRecord forAtoms accessLevels firstFailed relabelled testsFrom
     policyTests policyRefusal orElse recordsFrom recordsOf ofKind rulesOf reduct times passBy closureBy consequences model disclosable askable unlocks modelAnswer
-    disclosableAnswer onesIn size subsets lexBefore preferred candidates chosen ending worked openingTests sessionRefusal roundRefusal round run opening acceptedOf
+    disclosableAnswer onesIn size subsets lexBefore preferred candidates chosen totalIn weightAmong ending worked openingTests sessionRefusal roundRefusal round run opening acceptedOf
     Each reply turns answers lines policyA policyB
 computed = tt
 

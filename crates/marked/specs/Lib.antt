@@ -1,2 +1,3 @@
--- The marked cases of document 01.
+-- The marked cases of document 01, and examples of weights.
 pub mod Marked
+pub mod Weighted

@@ -7,7 +7,7 @@ use Prim.Native.Nat.{_%_, _*_, _+_, _/_, _<_, _≤_, ℕ}
 use native.Mathlib.Omega.{arith}
 use Rattle.encoding.specs.LittleEndian.{Bytes}
 use Rattle.records.specs.Policies.{policyOf}
-use Rattle.form.proofs.NumberLaws.{small-place}
+use Rattle.form.proofs.NumberLaws.{small-number, small-place}
 use Rattle.form.specs.WrittenForm.{PolicyRefused, Refusal, WellFormed, at, recordNumber, refusalNumber}
 use Rattle.form.specs.PolicyTest.{policyRefusal}
 use Rattle.form.proofs.TheoremsProof as policies
@@ -62,8 +62,8 @@ module _ (policy : List ℕ) (b : Bytes policy) where
   place-lt : (n k : ℕ) → PolicyRefused policy (at n k) → k < 256
   place-lt = small-place policy
 
-  number-in : (n k : ℕ) → PolicyRefused policy (at n k) → (1 ≤ n) × (n ≤ 6)
-  number-in n k h = policies.theorems .numbers policy b .only n k (policies.theorems .tested policy b .refuses (at n k) .1 h)
+  number-in : (n k : ℕ) → PolicyRefused policy (at n k) → (1 ≤ n) × (n ≤ 13)
+  number-in = small-number policy
 
   policy-told : (n k : ℕ) → PolicyRefused policy (at n k)
       → (policyReply (at n k) % 256 ≢ 0) × ToldRefusal (ofPolicy (at n k)) (policyReply (at n k))
@@ -81,7 +81,7 @@ module _ (policy : List ℕ) (b : Bytes policy) where
       go : (o : Option Refusal) → policyRefusal policy ≡ o → (testReply o ≡ 0) ↔ WellFormed policy
       go none e = (λ z. policies.theorems .tested policy b .accepts .0 e, λ w. refl)
       go (some (at n k)) e =
-          let n-in = policies.theorems .numbers policy b .only n k e in (
+          let n-in = number-in n k (policies.theorems .tested policy b .refuses (at n k) .0 e) in (
             λ z. absurd (omega (arith, n-in .0, z)),
             λ w. ap testReply (sym e ∙ policies.theorems .tested policy b .accepts .1 w),
           )

@@ -14,11 +14,11 @@ use Rattle.demands.specs.Promises.{Visit}
 use Rattle.packing.specs.Packed.{packed, unpacked}
 use Rattle.packing.specs.Replies.{answerReply, done, policyReply, refusalReply, testReply}
 
--- "The policy's test gives only 1 to 6"
+-- "The policy's test gives only 1 to 6", and since R-2 12 and 13
 unfoldable pub checkReply : List ℕ → ℕ
 checkReply policy = testReply (policyRefusal policy)
 
--- ---- sets: "model and disclosable set give 1 to 6 and then no set"
+-- ---- sets: "model and disclosable set give 1 to 6 and then no set", and since R-2 12 and 13
 
 abbrev pub setReply : Unless W.Refusal ℕ → ℕ
 setReply (given S) = done

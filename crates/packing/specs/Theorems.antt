@@ -114,7 +114,7 @@ pub record Theorems : Type 0 where
       → Told (round policy s m .answer) (callOf (round policy s m))
   -- ---- calls one after another
 
-  -- any list of them, with policies changed between, is the list of rounds that document 01 defines
+  -- any list of them, with policies changed between, is the list of rounds that the papers define
   pub calls : (s : Session) (vs : List Visit) → callsFrom (packed s) vs ≡ map (λ (t : Turn Visit Outcome). callOf (t .gives)) (visitsOf s vs)
   pub demand3 : CallsMeetDemand3
   -- document 01's cases, byte for byte

@@ -1,13 +1,13 @@
 -- The tests that a record of each kind takes. Assumes nothing.
 use mathlib.Core.Path.{_≡_}
-use mathlib.Core.Bool.{true}
+use mathlib.Core.Bool.{not, true}
 use mathlib.Core.List.{List, [], _∷_}
 use mathlib.Core.Option.{some}
 use Prim.Native.Nat.{ℕ}
 use borrow.Author.Tests.{ne-eqb}
 use Rattle.validation.specs.Tests.{firstFailed, relabelled}
-use Rattle.records.specs.Records.{Record, accessKind, disclosureKind}
-use Rattle.form.specs.PolicyTest.{accessBody, accessHead, accessLevels, atRecord, disclosureBody, disclosureHead, recordTests}
+use Rattle.records.specs.Records.{Record, accessKind, disclosureKind, weightKind}
+use Rattle.form.specs.PolicyTest.{accessBody, accessHead, accessLevels, atRecord, credentialHead, disclosureBody, recordTests, weighs, weightBody}
 use Rattle.form.specs.WrittenForm.{at}
 
 module _ (before : List Record) (d : Record) (k : ℕ) where
@@ -17,10 +17,16 @@ module _ (before : List Record) (d : Record) (k : ℕ) where
   access-refusal e = rw e
 
   pub disclosure-refusal : d .kind ≡ disclosureKind → firstFailed (atRecord k (recordTests before d))
-      ≡ firstFailed (atRecord k ((disclosureHead (d .rule), 4) ∷ (disclosureBody (d .rule), 5) ∷ (true, 6) ∷ []))
+      ≡ firstFailed (atRecord k ((credentialHead (d .rule), 4) ∷ (disclosureBody (d .rule), 5) ∷ (true, 6) ∷ []))
   unfolding firstFailed relabelled
   disclosure-refusal e = rw e
 
-  pub other-refusal : (d .kind ≡ accessKind → ⊥) → (d .kind ≡ disclosureKind → ⊥) → firstFailed (atRecord k (recordTests before d)) ≡ some (at 3 k)
+  pub weight-refusal : d .kind ≡ weightKind → firstFailed (atRecord k (recordTests before d))
+      ≡ firstFailed (atRecord k ((credentialHead (d .rule), 4) ∷ (weightBody (d .rule), 12) ∷ (not (weighs (d .rule .head) before), 13) ∷ []))
   unfolding firstFailed relabelled
-  other-refusal m n = simp (ne-eqb (d .kind) accessKind m, ne-eqb (d .kind) disclosureKind n)
+  weight-refusal e = rw e
+
+  pub other-refusal : (d .kind ≡ accessKind → ⊥) → (d .kind ≡ disclosureKind → ⊥) → (d .kind ≡ weightKind → ⊥)
+      → firstFailed (atRecord k (recordTests before d)) ≡ some (at 3 k)
+  unfolding firstFailed relabelled
+  other-refusal m n o = simp (ne-eqb (d .kind) accessKind m, ne-eqb (d .kind) disclosureKind n, ne-eqb (d .kind) weightKind o)

@@ -9,11 +9,12 @@ use Rattle.policy.specs.Types.{checkedOf, refusalOf}
 use Rattle.policy.specs.declared.Checked.{Checked}
 use Rattle.policy.specs.declared.Checked.the-variants.{Accepted, Refused}
 use Rattle.policy.specs.declared.refusal.Refusal.{Refusal}
-use Rattle.policy.specs.declared.refusal.Refusal.the-variants.{Body, Head, Kind, Level, NotWhole, TooLong}
+use Rattle.policy.specs.declared.refusal.Refusal.the-variants.{Body, Head, Kind, Level, NotWhole, SecondWeight, TooLong, Weight}
 
 pub refusalBack : W.Refusal → Refusal
 refusalBack (W.at n k) =
-    cond (eqb n 1) TooLong (cond (eqb n 2) (NotWhole k) (cond (eqb n 3) (Kind k) (cond (eqb n 4) (Head k) (cond (eqb n 5) (Body k) (Level k)))))
+    cond (eqb n 1) TooLong (cond (eqb n 2) (NotWhole k) (cond (eqb n 3) (Kind k) (cond (eqb n 4) (Head k) (cond (eqb n 5) (Body k)
+    (cond (eqb n 6) (Level k) (cond (eqb n 12) (Weight k) (SecondWeight k)))))))
 
 pub refusal-back : (x : Refusal) → refusalBack (refusalOf x) ≡ x
 unfolding refusalBack
@@ -23,6 +24,8 @@ refusal-back (Kind k) = refl
 refusal-back (Head k) = refl
 refusal-back (Body k) = refl
 refusal-back (Level k) = refl
+refusal-back (Weight k) = refl
+refusal-back (SecondWeight k) = refl
 
 checkedBack : Option W.Refusal → Checked
 checkedBack none = Accepted

@@ -1,10 +1,10 @@
--- What the program's types mean: document 01's number and values for each case. Assumes nothing.
+-- What the program's types mean: the papers' number and values for each case. Assumes nothing.
 use mathlib.Core.Option.{Option, none, some}
 use Rattle.form.specs.WrittenForm as W
 use Rattle.policy.specs.declared.Checked.{Checked}
 use Rattle.policy.specs.declared.Checked.the-variants.{Accepted, Refused}
 use Rattle.policy.specs.declared.refusal.Refusal.{Refusal}
-use Rattle.policy.specs.declared.refusal.Refusal.the-variants.{TooLong, NotWhole, Kind, Head, Body, Level}
+use Rattle.policy.specs.declared.refusal.Refusal.the-variants.{TooLong, NotWhole, Kind, Head, Body, Level, Weight, SecondWeight}
 
 abbrev pub refusalOf : Refusal → W.Refusal
 refusalOf TooLong = W.at 1 128
@@ -13,6 +13,8 @@ refusalOf (Kind k) = W.at 3 k
 refusalOf (Head k) = W.at 4 k
 refusalOf (Body k) = W.at 5 k
 refusalOf (Level k) = W.at 6 k
+refusalOf (Weight k) = W.at 12 k
+refusalOf (SecondWeight k) = W.at 13 k
 
 -- the refusal, or none where the policy is accepted
 abbrev pub checkedOf : Checked → Option W.Refusal

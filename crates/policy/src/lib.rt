@@ -1,18 +1,21 @@
-// The policy's test (document 01, "Who can be turned back").
+// The policy's test (document 01, "Who can be turned back"; weights: document 02, R-2).
 ghost use mathlib.Core.Path.{_≡_};
-ghost use Prim.Native.Nat.{_*_, _+_, _<_, _≤_};
+ghost use Prim.Native.Nat.{_*_, _≤_};
 ghost use lib.ListN.{length};
 ghost use Rattle.validation.specs.Tests.{firstFailed};
-ghost use Rattle.form.specs.PolicyTest.{policyRefusal, testsAt, testsFrom};
+ghost use Rattle.form.specs.PolicyTest.{policyRefusal, testsFrom};
 ghost use Rattle.form.specs.Theorems.{Tested};
 ghost use Rattle.policy.specs.Types.{checkedOf};
+use atoms::AtomSet;
 use records::record_at;
 use refusal::Refusal;
 use tests::check_record;
+use weights::with_weighed;
 
 mod levels;
 pub mod refusal;
 mod tests;
+mod weights;
 
 // 128 records of 18 bytes.
 const MOST_BYTES: usize = 2304;
@@ -47,22 +50,17 @@ fn check_records(policy: &[u8], records: usize) -> Checked
     ensures { λ r. ⌜ checkedOf r ≡ firstFailed (testsFrom (now (policy .entry)) 0 records) ⌝ }
 {
     let mut k: usize = 0;
+    // The credentials that the records before record k weigh.
+    let mut weighed = AtomSet::EMPTY;
     while k < records {
-        let checked = check_at(policy, k);
+        let parsed = record_at(policy, k);
+        let number = k as u8;
+        let checked = check_record(parsed, number, weighed);
         let Checked::Accepted = checked else {
             return checked;
         };
+        weighed = with_weighed(weighed, parsed);
         k += 1;
     }
     Checked::Accepted
-}
-
-// The test of record k, which is there.
-fn check_at(policy: &[u8], k: usize) -> Checked
-    requires { ⌜ (18 * k + 18 ≤ length (now policy)) × (k < 128) ⌝ }
-    ensures { λ r. ⌜ checkedOf r ≡ firstFailed (testsAt (now (policy .entry)) k) ⌝ }
-{
-    let parsed = record_at(policy, k);
-    let number = k as u8;
-    check_record(parsed, number)
 }

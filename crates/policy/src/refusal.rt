@@ -1,4 +1,4 @@
-// Refusals of a policy, and document 01's numbers for them.
+// Refusals of a policy, and the papers' numbers for them (document 01; 12 and 13: document 02, R-2).
 ghost use mathlib.Core.Path.{_≡_};
 ghost use Rattle.form.specs.WrittenForm.{recordNumber, refusalNumber};
 ghost use Rattle.policy.specs.Types.{refusalOf};
@@ -9,7 +9,7 @@ pub enum Refusal {
     TooLong,
     // A length that is not a multiple of 18, with the number of whole records.
     NotWhole(u8),
-    // A kind that is neither access nor disclosure.
+    // A kind that is none of access, disclosure and weight.
     Kind(u8),
     // A head that its kind does not allow.
     Head(u8),
@@ -17,10 +17,14 @@ pub enum Refusal {
     Body(u8),
     // A body atom on too high a level.
     Level(u8),
+    // A weight above 15, or with a negated set.
+    Weight(u8),
+    // A second weight for one credential.
+    SecondWeight(u8),
 }
 
 impl Refusal {
-    // Document 01's number of the refusal, 1 to 6.
+    // The papers' number of the refusal, 1 to 6, 12 or 13.
     pub fn number(self) -> u8
         ensures { λ r. ⌜ r ≡ refusalNumber (refusalOf self) ⌝ }
     {
@@ -31,10 +35,12 @@ impl Refusal {
             Refusal::Head(_) => 4,
             Refusal::Body(_) => 5,
             Refusal::Level(_) => 6,
+            Refusal::Weight(_) => 12,
+            Refusal::SecondWeight(_) => 13,
         }
     }
 
-    // The record number that document 01 gives with it.
+    // The record number that the papers give with it.
     pub fn record(self) -> u8
         ensures { λ r. ⌜ r ≡ recordNumber (refusalOf self) ⌝ }
     {
@@ -45,6 +51,8 @@ impl Refusal {
             Refusal::Head(k) => k,
             Refusal::Body(k) => k,
             Refusal::Level(k) => k,
+            Refusal::Weight(k) => k,
+            Refusal::SecondWeight(k) => k,
         }
     }
 }

@@ -1,23 +1,27 @@
-// The tests of one record: refusals 3 to 6.
+// The tests of one record: refusals 3 to 6, 12 and 13.
 ghost use mathlib.Core.Path.{_≡_};
 ghost use mathlib.Core.List.{[], _∷_};
 ghost use Rattle.validation.specs.Tests.{firstFailed};
 ghost use Rattle.records.specs.Types.{recordOf};
-ghost use Rattle.form.specs.PolicyTest.{AnswersRecord, accessBody, accessHead, atRecord, disclosureBody, disclosureHead};
+ghost use Rattle.form.specs.PolicyTest.{AnswersRecord, accessBody, accessHead, atRecord, credentialHead, disclosureBody};
 ghost use Rattle.policy.specs.Types.{checkedOf};
 use crate::Checked;
 use crate::levels::access_levels;
 use crate::refusal::Refusal;
+use crate::weights::weight_body;
+use crate::weights::weight_failed;
+use atoms::AtomSet;
 use atoms::FIRST_DERIVED;
 use atoms::LAST_CREDENTIAL;
 use atoms::VIOLATION;
 use records::ACCESS;
 use records::DISCLOSURE;
 use records::Record;
+use records::WEIGHT;
 
-// The test of record k, which needs none of the records before it.
-pub(crate) fn check_record(parsed: Record, k: u8) -> Checked
-    ensures { λ r. ⌜ AnswersRecord (recordOf parsed) k (checkedOf r) ⌝ }
+// The test of record k, where the records before it weigh these credentials.
+pub(crate) fn check_record(parsed: Record, k: u8, weighed: AtomSet) -> Checked
+    ensures { λ r. ⌜ AnswersRecord (weighed .bits) (recordOf parsed) k (checkedOf r) ⌝ }
 {
     let kind = parsed.kind;
     match kind {
@@ -27,7 +31,13 @@ pub(crate) fn check_record(parsed: Record, k: u8) -> Checked
             access_levels(parsed),
             k,
         ),
-        DISCLOSURE => first_failed(disclosure_head(parsed), disclosure_body(parsed), true, k),
+        DISCLOSURE => first_failed(credential_head(parsed), disclosure_body(parsed), true, k),
+        WEIGHT => weight_failed(
+            credential_head(parsed),
+            weight_body(parsed),
+            !weighed.contains(parsed.head),
+            k,
+        ),
         _ => Checked::Refused(Refusal::Kind(k)),
     }
 }
@@ -63,8 +73,8 @@ fn access_body(parsed: Record) -> bool
 }
 
 // 0 to 15.
-fn disclosure_head(parsed: Record) -> bool
-    ensures { λ r. ⌜ r ≡ disclosureHead (recordOf parsed .rule) ⌝ }
+fn credential_head(parsed: Record) -> bool
+    ensures { λ r. ⌜ r ≡ credentialHead (recordOf parsed .rule) ⌝ }
 {
     parsed.head <= LAST_CREDENTIAL
 }

@@ -1,7 +1,8 @@
--- The order of cost over the subsets of D: by weight, size and number; with equal weights the first is the preferred question. Assumes nothing.
+-- The order of cost over the subsets of D: by weight, size and number; the first is the preferred question. Assumes nothing.
 use mathlib.Core.Path.{_∙_, _≡_, ap, refl, subst, sym}
 use mathlib.Core.Logic.{_↔_, _≢_, inl, inr}
 use mathlib.Core.Bool.{Bool, false, true, true≢false}
+use mathlib.Core.List.{List}
 use mathlib.Core.Option.{Option, none, some}
 use Prim.Native.Nat.{_*_, _+_, _<_, _^_, _≤_, ℕ}
 use lib.Pow.{pow-mono}
@@ -9,13 +10,13 @@ use native.Mathlib.Decide.{decLt}
 use native.Mathlib.Omega.{arith}
 use Rattle.atoms.specs.Sets.{Subset, size}
 use Rattle.atoms.proofs.SizeLaws.{size-credentials}
-use Rattle.rules.specs.Policy.{Policy}
 use Rattle.preference.specs.Preference.{lexBefore, preferred}
-use Rattle.preference.specs.Question.{Question, candidates, keys, weightIn}
+use Rattle.preference.specs.Question.{Question, candidates, keysBy}
 use Rattle.preference.specs.Order.{Before, First, costOf, firstOf}
-use Rattle.preference.specs.Subsets.{costIn, subsetOf, total, weightsOf}
-use Rattle.preference.specs.OrderTheorems.{Lighter, LightestOf, equalWeights, questionAt, questionFor}
-use Rattle.preference.proofs.CostLaws.{total-ones, weight-equal}
+use Rattle.preference.specs.Subsets.{WeightsListed, subsetOf, weightsOf}
+use Rattle.preference.specs.OrderTheorems.{LightestOf, questionAt, questionFor}
+use Rattle.preference.specs.Weights.{Lighter, total}
+use Rattle.preference.proofs.CostLaws.{weight-alike}
 use Rattle.preference.proofs.NumberLaws.{in-all, in-inside, in-lt, in-rising, in-size, in-weights, ones-size}
 use Rattle.preference.proofs.OrderLaws.{Compared, alike, compare, first, first-none, first-some, second}
 use Rattle.preference.proofs.QuestionLaws.{none-preferred, not-before, one-preferred}
@@ -41,8 +42,6 @@ module _ (D : ℕ) (l : D < 2 ^ 16) where
   pub sized : (n : ℕ) → n < 2 ^ size D → size (subsetOf D n) ≡ size n
   sized n k =
       sym (ones-size (subsetOf D n) (in-lt 16 D n)) ∙ in-size 16 D n (rw (ones-size D l) k) ∙ ones-size n (omega (arith, top))
-
-  -- ---- any weights
 
   module _ (w : ℕ → ℕ) (m n : ℕ) (i : m < 2 ^ size D) (j : n < 2 ^ size D) where
     costed : (x : ℕ) → x < 2 ^ size D → (costOf (weightsOf w D) x ≡ 17 * total w (subsetOf D x) + size (subsetOf D x)) × (size (subsetOf D x) ≤ 16)
@@ -87,62 +86,37 @@ module _ (D : ℕ) (l : D < 2 ^ 16) where
           go (alike a) = absurd (d (sym is ∙ ap (subsetOf D) a))
           go (second b) = subst (λ (y : ℕ). Lighter w (subsetOf D n) y) is (lightest w n m (f .inside) l .0 b)
 
-  -- ---- equal weights
+  -- and is the preferred question
+  module _ (w : ℕ → ℕ) (test : Question → Bool) where
+    abbrev cost : ℕ → ℕ
+    cost = costOf (weightsOf w D)
 
-  -- a cost that counts members alone
-  module _ (pol : Policy) (cost : ℕ → ℕ) (counts : (n : ℕ) → n < 2 ^ size D → cost n ≡ 18 * size (subsetOf D n)) (test : Question → Bool) where
+    abbrev passes : ℕ → Bool
+    passes n = test (questionAt D n)
+
     -- x, the set of candidate m, does not come before candidate n
-    after : (n : ℕ) → First cost (λ n. test (questionAt D n)) (2 ^ size D) n
-        → (x : Question) → Subset (x .asks) D → test x ≡ true → lexBefore (keys pol x) (keys pol (questionAt D n)) ≡ false
-    after n f x i t = not-before pol x (questionAt D n) (λ h. none (inl (fewer h))) (λ e h. none (inr (as-many e, smaller h)))
+    after : (n : ℕ) → First cost passes (2 ^ size D) n
+        → (x : Question) → Subset (x .asks) D → test x ≡ true → lexBefore (keysBy w x) (keysBy w (questionAt D n)) ≡ false
+    after n f x i t = not-before w x (questionAt D n) (λ h. none h (all (x .asks) i))
       where
-        o : (m : ℕ) × (m < 2 ^ size D) × (subsetOf D m ≡ x .asks)
-        o = all (x .asks) i
+        none : Lighter w (x .asks) (subsetOf D n) → (m : ℕ) × (m < 2 ^ size D) × (subsetOf D m ≡ x .asks) → ⊥
+        none h (m, k, is) =
+            let b = lightest w m n k (f .inside) .1 (subst (λ (y : ℕ). Lighter w y (subsetOf D n)) (sym is) h) in
+            true≢false (sym t ∙ ap (λ (y : ℕ). test (record { asks = y })) (sym is) ∙ f .first m k b)
 
-        is : questionAt D (o .0) ≡ x
-        is = ap (λ (y : ℕ). record { asks = y }) (o .2)
-
-        none : Before cost (o .0) n → ⊥
-        none b = true≢false (sym t ∙ ap test (sym is) ∙ f .first (o .0) (o .1) b)
-
-        fewer : size (x .asks) < size (subsetOf D n) → cost (o .0) < cost n
-        fewer h = omega (arith, counts (o .0) (o .1), counts n (f .inside), ap size (o .2))
-
-        as-many : size (x .asks) ≡ size (subsetOf D n) → cost (o .0) ≡ cost n
-        as-many e = omega (arith, counts (o .0) (o .1), counts n (f .inside), ap size (o .2))
-
-        smaller : x .asks < subsetOf D n → o .0 < n
-        smaller h = falling (o .0) n (o .1) (omega (arith, o .2))
-
-    pub first-preferred : questionFor D (firstOf cost (λ n. test (questionAt D n)) (2 ^ size D)) ≡ preferred (keys pol) test (candidates D)
-    first-preferred = go (firstOf cost (λ n. test (questionAt D n)) (2 ^ size D)) refl
+    pub by-cost : questionFor D (firstOf cost passes (2 ^ size D)) ≡ preferred (keysBy w) test (candidates D)
+    by-cost = go (firstOf cost passes (2 ^ size D)) refl
       where
-        go : (a : Option ℕ) → firstOf cost (λ n. test (questionAt D n)) (2 ^ size D) ≡ a → questionFor D a ≡ preferred (keys pol) test (candidates D)
+        go : (a : Option ℕ) → firstOf cost passes (2 ^ size D) ≡ a → questionFor D a ≡ preferred (keysBy w) test (candidates D)
         go none e =
-            sym (none-preferred pol test D l (λ q i.
+            sym (none-preferred w test D l (λ q i.
             let o = all (q .asks) i in
-            ap test (ap (λ (y : ℕ). record { asks = y }) (sym (o .2))) ∙ first-none cost (λ n. test (questionAt D n)) (2 ^ size D) e (o .0) (o .1)))
+            ap test (ap (λ (y : ℕ). record { asks = y }) (sym (o .2))) ∙ first-none cost passes (2 ^ size D) e (o .0) (o .1)))
         go (some n) e =
-            let f = first-some cost (λ n. test (questionAt D n)) (2 ^ size D) n e in
-            sym (one-preferred pol test D l (questionAt D n) (in-inside 16 D n) (f .passes) (after n f))
+            let f = first-some cost passes (2 ^ size D) n e in
+            sym (one-preferred w test D l (questionAt D n) (in-inside 16 D n) (f .passes) (after n f))
 
-  -- document 01's weights, and what a policy says of them
-  equal : (n : ℕ) → n < 2 ^ size D → costOf equalWeights n ≡ 18 * size (subsetOf D n)
+  -- weights that are listed cost the same
+  pub costs-alike : (w : ℕ → ℕ) (ws : List ℕ) → WeightsListed w D ws → (n : ℕ) → n < 2 ^ size D → costOf ws n ≡ costOf (weightsOf w D) n
   unfolding costOf
-  equal n k = omega (arith, weight-equal 16 n, ones-size n (omega (arith, top)), sized n k)
-
-  in-policy : (pol : Policy) (n : ℕ) → n < 2 ^ size D → costIn pol D n ≡ 18 * size (subsetOf D n)
-  in-policy pol n k =
-      let c = costed (weightIn pol) n n k k n k in
-      omega (arith, c .0, total-ones 16 (subsetOf D n), ones-size (subsetOf D n) (in-lt 16 D n))
-
-  pub by-cost : (pol : Policy) (test : Question → Bool)
-      → questionFor D (firstOf (costIn pol D) (λ n. test (questionAt D n)) (2 ^ size D)) ≡ preferred (keys pol) test (candidates D)
-  by-cost pol = first-preferred pol (costIn pol D) (in-policy pol)
-
-  pub by-equal-cost : (pol : Policy) (test : Question → Bool)
-      → questionFor D (firstOf (costOf equalWeights) (λ n. test (questionAt D n)) (2 ^ size D)) ≡ preferred (keys pol) test (candidates D)
-  by-equal-cost pol = first-preferred pol (costOf equalWeights) equal
-
-  pub equal-costs : (pol : Policy) (n : ℕ) → n < 2 ^ size D → costOf equalWeights n ≡ costIn pol D n
-  equal-costs pol n k = equal n k ∙ sym (in-policy pol n k)
+  costs-alike w ws h n k = omega (arith, weight-alike (size D) ws (weightsOf w D) n k h)

@@ -1,19 +1,18 @@
 -- The cost of a candidate, by its low and its high members. Assumes nothing.
-use mathlib.Core.Path.{_∙_, _≡_, ap, refl, sym}
+use mathlib.Core.Path.{_∙_, _≡_, ap, ap₂, refl, sym}
 use mathlib.Core.List.{List, [], _∷_}
 use Prim.Native.Nat.{_%_, _*_, _+_, _/_, _<_, _^_, _≤_, suc, zero, ℕ}
 use lib.Count.{ones, ones-cat, onesIn}
-use lib.ListN.{drop, getD, length, replicate}
+use lib.ListN.{drop, getD, length}
 use lib.Pow.{field, high, low, mod-mod-pow, pow-pos, shr-shr, split}
 use lib.Seq.{getD-drop}
-use native.Mathlib.Nat.{div-le-self, mod-le, mod-lt, one-mul}
+use native.Mathlib.Nat.{div-le-self, mod-le, mod-lt, mul-zero, one-mul, pow-suc}
 use native.Mathlib.Numerals.{add-one, one-add}
 use native.Mathlib.Omega.{arith}
 use Rattle.atoms.specs.Sets.{bit, size}
 use Rattle.atoms.proofs.SetLaws.{bit-first, bit-next}
 use Rattle.atoms.proofs.SizeLaws.{size-is}
 use Rattle.preference.specs.Order.{costOf, sum, weightOf}
-use Rattle.preference.specs.Subsets.{totalIn}
 use Rattle.preference.proofs.SumLaws.{sum-same, sum-shift}
 
 -- ---- weights
@@ -60,17 +59,23 @@ weight-means (w ∷ ws) n =
     sum-same (λ j. bit (n / 2) j * getD ws j 0) (λ j. bit n (suc j) * getD ws j 0) (length ws) (λ j _. ap (λ (x : ℕ). x * getD ws j 0) (sym (bit-next n j))) in
     omega (arith, weight-means ws (n / 2), first, rest, sum-shift (λ j. bit n j * getD (w ∷ ws) j 0) (length ws))
 
--- where each weighs 1, as much as there are members
-pub weight-equal : (k n : ℕ) → weightOf (replicate k 1) n ≡ onesIn k n
-unfolding weightOf onesIn
-weight-equal zero n = refl
-weight-equal (suc k) n = omega (arith, weight-equal k (n / 2))
+-- the first member, and the others
+weight-next : (ws : List ℕ) (n : ℕ) → weightOf ws n ≡ n % 2 * getD ws 0 0 + weightOf (drop 1 ws) (n / 2)
+unfolding weightOf
+weight-next [] n = omega (arith, mul-zero (n % 2))
+weight-next (w ∷ ws) n = refl
 
--- so does the total of a set whose members weigh 1 each
-pub total-ones : (k X : ℕ) → totalIn k (λ j. 1) X ≡ onesIn k X
-unfolding totalIn onesIn
-total-ones zero X = refl
-total-ones (suc k) X = omega (arith, total-ones k (X / 2))
+-- of k members, whatever stands behind them
+pub weight-alike : (k : ℕ) (us vs : List ℕ) (n : ℕ) → n < 2 ^ k → ((j : ℕ) → j < k → getD us j 0 ≡ getD vs j 0) → weightOf us n ≡ weightOf vs n
+weight-alike zero us vs n l h = let z : n ≡ 0 = omega arith in rw z (weight-empty us ∙ sym (weight-empty vs))
+weight-alike (suc k) us vs n l h =
+    weight-next us n
+    ∙ ap₂ (λ (x y : ℕ). n % 2 * x + y) (h 0 (omega arith))
+    (weight-alike k (drop 1 us) (drop 1 vs) (n / 2) (omega (arith, pow-suc 2 k)) (λ j i. next us j ∙ h (suc j) (omega arith) ∙ sym (next vs j)))
+    ∙ sym (weight-next vs n)
+  where
+    next : (ws : List ℕ) (j : ℕ) → getD (drop 1 ws) j 0 ≡ getD ws (suc j) 0
+    next ws j = getD-drop 1 ws j 0 ∙ ap (λ (x : ℕ). getD ws x 0) (one-add j)
 
 -- ---- sizes
 

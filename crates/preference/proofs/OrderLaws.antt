@@ -2,6 +2,7 @@
 use mathlib.Core.Path.{_∙_, _≡_, ap, ap₂, refl, subst, sym}
 use mathlib.Core.Logic.{_↔_, _⊎_, _≢_, inl, inr}
 use mathlib.Core.Bool.{Bool, cond, false, true, true≢false}
+use mathlib.Core.List.{[], _∷_}
 use mathlib.Core.Option.{Option, none, some}
 use Prim.Native.Nat.{_+_, _-_, _<_, _≤_, suc, zero, ℕ}
 use lib.Dec.{ltb}
@@ -12,7 +13,7 @@ use Rattle.lists.specs.Lists.{Every}
 use Rattle.preference.specs.Preference.{lexBefore}
 use Rattle.preference.specs.Order.{Before, First, Result, Searched, before, costKeys, firstOf, found, nothing, place, searched, spent, trials, unlimited, upTo}
 use Rattle.preference.proofs.PreferLaws.{decides-before, preferred-none, preferred-some}
-use Rattle.preference.proofs.SumLaws.{sum-all, sum-lt, sum-none}
+use Rattle.preference.proofs.SumLaws.{sum-all, sum-lt, sum-none, sum-same}
 
 -- ---- the order
 
@@ -227,6 +228,32 @@ module _ (cost : ℕ → ℕ) (f g : ℕ → Bool) (N : ℕ) (alike : (n : ℕ) 
   pub searched-same : 0 < N → (limit : ℕ) → searched cost f N limit ≡ searched cost g N limit
   searched-same p limit =
       sym (searched-means cost g N limit p (searched cost f N limit) .1 (same-means limit (searched cost f N limit) (searched-means cost f N limit p (searched cost f N limit) .0 refl)))
+
+-- so have costs that are the same below N
+module _ (c d : ℕ → ℕ) (test : ℕ → Bool) (N : ℕ) (equal : (n : ℕ) → n < N → c n ≡ d n) where
+  before-alike : (m n : ℕ) → m < N → n < N → before c m n ≡ before d m n
+  unfolding before
+  before-alike m n k l = ap₂ (λ (x y : ℕ). lexBefore (x ∷ m ∷ []) (y ∷ n ∷ [])) (equal m k) (equal n l)
+
+  place-alike : (n : ℕ) → n < N → place c N n ≡ place d N n
+  unfolding place
+  place-alike n l = sum-same (λ m. mark c m n) (λ m. mark d m n) N (λ m k. ap (λ (b : Bool). cond b 1 0) (before-alike m n k l))
+
+  first-alike : (n : ℕ) → First c test N n → First d test N n
+  first-alike n f = record {
+    inside = f .inside;
+    passes = f .passes;
+    first = λ m k b. f .first m k (before-means c m n .0 (before-alike m n k (f .inside) ∙ before-means d m n .1 b));
+  }
+
+  alike-means : (limit : ℕ) (a : Result) → Searched c test N limit a → Searched d test N limit a
+  alike-means limit (found n p) (f, e, l) = (first-alike n f, e ∙ place-alike n (f .inside), l)
+  alike-means limit (nothing t) h = h
+  alike-means limit spent (h, l) = ((λ m k i. h m k (omega (arith, place-alike m k))), l)
+
+  pub searched-alike : 0 < N → (limit : ℕ) → searched c test N limit ≡ searched d test N limit
+  searched-alike p limit =
+      sym (searched-means d test N limit p (searched c test N limit) .1 (alike-means limit (searched c test N limit) (searched-means c test N limit p (searched c test N limit) .0 refl)))
 
 -- where no place is past the limit, it says nothing
 pub no-limit : (cost : ℕ → ℕ) (test : ℕ → Bool) (N limit : ℕ) → N ≤ limit + 1 → searched cost test N limit ≡ unlimited cost test N (firstOf cost test N)

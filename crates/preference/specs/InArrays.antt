@@ -6,12 +6,12 @@ use mathlib.Core.Option.{Option}
 use Prim.Native.Nat.{_≤_, ℕ}
 use Rattle.atoms.specs.Atoms.{violation}
 use Rattle.atoms.specs.Sets.{disjoint, union}
-use Rattle.rules.specs.Policy.{Policy}
 use Rattle.rules.specs.Unlocking.{grants}
 use Rattle.arrays.specs.Arrays.{Placed, evaluated}
 use Rattle.preference.specs.Candidates.{Members, switched}
 use Rattle.preference.specs.Preference.{preferred}
-use Rattle.preference.specs.Question.{Question, candidates, keys, noQuestion}
+use Rattle.preference.specs.Question.{Question, candidates, keysBy, noQuestion}
+use Rattle.preference.specs.Weights.{weightAt}
 
 module _ (levels : ℕ) (heads positive negated starts : List ℕ) (r P : ℕ) where
   -- "that with P unlock the request"
@@ -22,10 +22,10 @@ module _ (levels : ℕ) (heads positive negated starts : List ℕ) (r P : ℕ) w
   unfoldable pub opensAt : List ℕ → ℕ → ℕ → Bool
   opensAt members count n = grants r (evaluated levels heads positive negated starts (switched P members count n))
 
--- o is the question that is preferred among those within a set, if there is one: by the order of any policy, since they all prefer alike
-abbrev pub PrefersIn : ℕ → List ℕ → List ℕ → List ℕ → List ℕ → ℕ → ℕ → ℕ → Option Question → Type 0
-PrefersIn levels heads positive negated starts r P within o =
-    (pol : Policy) → o ≡ preferred (keys pol) (opensIn levels heads positive negated starts r P) (candidates within)
+-- the question that is preferred among those within a set, if there is one, where credential k weighs what ws has at place k
+abbrev pub preferredIn : ℕ → List ℕ → List ℕ → List ℕ → List ℕ → ℕ → ℕ → ℕ → List ℕ → Option Question
+preferredIn levels heads positive negated starts r P within ws =
+    preferred (keysBy (weightAt ws)) (opensIn levels heads positive negated starts r P) (candidates within)
 
 -- what a search starts from: rules in arrays, a request that is an atom, and members to switch
 pub record Searchable (levels : ℕ) (heads starts : List ℕ) (request : ℕ) (members : List ℕ) (count : ℕ) : Type 0 where

@@ -5,21 +5,13 @@ use mathlib.Core.Bool.{Bool, false, true}
 use mathlib.Core.List.{List}
 use mathlib.Core.Option.{Option, none, some}
 use Prim.Native.Nat.{_*_, _<_, _^_, _≤_, suc, ℕ}
-use lib.ListN.{getD, length, replicate}
+use lib.ListN.{getD, length}
 use Rattle.atoms.specs.Sets.{Subset, bit, size}
-use Rattle.rules.specs.Policy.{Policy}
 use Rattle.preference.specs.Preference.{preferred}
-use Rattle.preference.specs.Question.{Question, candidates, keys}
+use Rattle.preference.specs.Question.{Question, candidates, keysBy}
 use Rattle.preference.specs.Order.{Before, First, Result, Searched, before, costOf, firstOf, found, nothing, place, searched, spent, sum, weightOf}
-use Rattle.preference.specs.Subsets.{costIn, subsetOf, total, weightsOf}
-
--- "The preferred set has the least total weight, then the fewest credentials, then the smallest number." (document 02, R-2), where credential k weighs w k
-abbrev pub Lighter : (ℕ → ℕ) → ℕ → ℕ → Type 0
-Lighter w X Y = (total w X < total w Y) ⊎ ((total w X ≡ total w Y) × ((size X < size Y) ⊎ ((size X ≡ size Y) × (X < Y))))
-
--- document 01's weights: the same for each of the 16 credentials
-abbrev pub equalWeights : List ℕ
-equalWeights = replicate 16 1
+use Rattle.preference.specs.Subsets.{WeightsListed, subsetOf, weightsOf}
+use Rattle.preference.specs.Weights.{Lighter, total}
 
 -- the question that a candidate stands for, where D may be asked
 abbrev pub questionAt : ℕ → ℕ → Question
@@ -63,7 +55,12 @@ pub record OrderTheorems : Type 0 where
   -- weights are summed up over the members
   pub weight-means : (ws : List ℕ) (n : ℕ) → weightOf ws n ≡ sum (λ j. bit n j * getD ws j 0) (length ws)
   pub total-means : (w : ℕ → ℕ) (X : ℕ) → total w X ≡ sum (λ k. bit X k * w k) 16
-  pub equal-weights : (j : ℕ) → j < 16 → getD equalWeights j 0 ≡ 1
+  -- of the sixteen credentials alone
+  pub weights-alike : (v w : ℕ → ℕ) → ((k : ℕ) → k < 16 → v k ≡ w k) → (X : ℕ) → total v X ≡ total w X
+  -- where each of them weighs 1, as without weights, "The preferred set has the fewest credentials, counted as one bits; among those, the smallest as a
+  -- number." (document 01)
+  pub equal-weights : (w : ℕ → ℕ) → ((k : ℕ) → k < 16 → w k ≡ 1) → (X Y : ℕ) → X < 2 ^ 16 → Y < 2 ^ 16
+      → Lighter w X Y ↔ ((size X < size Y) ⊎ ((size X ≡ size Y) × (X < Y)))
   -- a candidate weighs what its set weighs, and has as many members
   pub weighed : (w : ℕ → ℕ) (D n : ℕ) → weightOf (weightsOf w D) n ≡ total w (subsetOf D n)
   pub sized : (D n : ℕ) → D < 2 ^ 16 → n < 2 ^ size D → size (subsetOf D n) ≡ size n
@@ -73,11 +70,9 @@ pub record OrderTheorems : Type 0 where
   -- the first by cost is the lightest that passes
   pub lightest-first : (w : ℕ → ℕ) (test : Question → Bool) (D n : ℕ) → D < 2 ^ 16
       → firstOf (costOf (weightsOf w D)) (λ n. test (questionAt D n)) (2 ^ size D) ≡ some n → LightestOf w test D (subsetOf D n)
-  -- "among subsets of D that with P unlock the request, the preferred one is asked": the first by the policy's costs, whatever the test
-  pub by-cost : (pol : Policy) (test : Question → Bool) (D : ℕ) → D < 2 ^ 16
-      → questionFor D (firstOf (costIn pol D) (λ n. test (questionAt D n)) (2 ^ size D)) ≡ preferred (keys pol) test (candidates D)
-  -- and the first with document 01's weights
-  pub by-equal-cost : (pol : Policy) (test : Question → Bool) (D : ℕ) → D < 2 ^ 16
-      → questionFor D (firstOf (costOf equalWeights) (λ n. test (questionAt D n)) (2 ^ size D)) ≡ preferred (keys pol) test (candidates D)
-  -- which are these costs
-  pub equal-costs : (pol : Policy) (D n : ℕ) → D < 2 ^ 16 → n < 2 ^ size D → costOf equalWeights n ≡ costIn pol D n
+  -- "among subsets of D that with P unlock the request, the preferred one is asked": the first by cost, whatever the weights and the test
+  pub by-cost : (w : ℕ → ℕ) (test : Question → Bool) (D : ℕ) → D < 2 ^ 16
+      → questionFor D (firstOf (costOf (weightsOf w D)) (λ n. test (questionAt D n)) (2 ^ size D)) ≡ preferred (keysBy w) test (candidates D)
+  -- a candidate's cost is by the weights of D's members, whatever stands behind them
+  pub costs-alike : (w : ℕ → ℕ) (D : ℕ) → D < 2 ^ 16 → (ws : List ℕ) → WeightsListed w D ws → (n : ℕ) → n < 2 ^ size D
+      → costOf ws n ≡ costOf (weightsOf w D) n

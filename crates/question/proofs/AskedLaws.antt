@@ -12,14 +12,15 @@ use Rattle.atoms.proofs.SizeLaws.{size-credentials}
 use Rattle.rules.specs.Unlocking.{grants}
 use Rattle.arrays.specs.Arrays.{evaluated}
 use Rattle.preference.specs.Candidates.{Members, switched, taken}
-use Rattle.preference.specs.InArrays.{PrefersIn, opensAt, opensIn}
+use Rattle.preference.specs.InArrays.{opensAt, opensIn, preferredIn}
 use Rattle.preference.specs.Order.{Result, costOf, firstOf, searched, unlimited}
-use Rattle.preference.specs.OrderTheorems.{equalWeights, questionAt, questionFor}
+use Rattle.preference.specs.OrderTheorems.{questionAt, questionFor}
 use Rattle.preference.specs.Question.{Question, noQuestion}
-use Rattle.preference.specs.Subsets.{MembersOf, subsetOf}
-use Rattle.preference.proofs.ByCostLaws.{by-equal-cost}
+use Rattle.preference.specs.Subsets.{MembersOf, WeightsListed, subsetOf, weightsOf}
+use Rattle.preference.specs.Weights.{weightAt}
+use Rattle.preference.proofs.ByCostLaws.{by-cost, costs-alike}
 use Rattle.preference.proofs.NumberLaws.{in-empty, in-inside}
-use Rattle.preference.proofs.OrderLaws.{no-limit, searched-same}
+use Rattle.preference.proofs.OrderLaws.{no-limit, searched-alike, searched-same}
 use Rattle.preference.proofs.SwitchLaws as switching
 use Rattle.search.specs.Types.{resultOf}
 use Rattle.search.specs.declared.result.SearchResult.{SearchResult}
@@ -64,33 +65,39 @@ module _ (levels : ℕ) (h p m s : List ℕ) (r P D : ℕ) (l : D < 2 ^ 16) (apa
     few : 2 ^ size D ≤ 65536
     few = pow-mono {i = size D} {j = 16} (size-credentials D l)
 
-    first : Option ℕ
-    first = firstOf (costOf equalWeights) (λ n. test (questionAt D n)) (2 ^ size D)
+    module _ (ws listed-weights : List ℕ) (weighed : WeightsListed (weightAt ws) D listed-weights) where
+      abbrev cost : ℕ → ℕ
+      cost = costOf (weightsOf (weightAt ws) D)
 
-    abbrev given : Option ℕ → Result
-    given = unlimited (costOf equalWeights) (λ n. test (questionAt D n)) (2 ^ size D)
+      first : Option ℕ
+      first = firstOf cost (λ n. test (questionAt D n)) (2 ^ size D)
 
-    pub answered : (a : SearchResult) → resultOf a ≡ searched (costOf equalWeights) (opensAt levels h p m s r P members count) (2 ^ count) 65535
-        → PrefersIn levels h p m s r P D (resultAsks members count a)
-    unfolding first
-    answered a e pol = go a first all ∙ by-equal-cost D l pol test
-      where
-        all : resultOf a ≡ given first
-        all =
-            e
-            ∙ ap (λ (x : ℕ). searched (costOf equalWeights) (opensAt levels h p m s r P members x) (2 ^ x) 65535) is
-            ∙ searched-same (costOf equalWeights) (opensAt levels h p m s r P members (size D)) (λ n. test (questionAt D n)) (2 ^ size D) same-test (pow-pos (size D)) 65535
-            ∙ no-limit (costOf equalWeights) (λ n. test (questionAt D n)) (2 ^ size D) 65535 few
+      abbrev given : Option ℕ → Result
+      given = unlimited cost (λ n. test (questionAt D n)) (2 ^ size D)
 
-        question : (n k : ℕ) → n ≡ k → some (record { asks = switched 0 members count n }) ≡ some (questionAt D k)
-        question n k d =
-            ap (λ (x : ℕ). some (record { asks = x }))
-            (ap (λ (x : ℕ). switched 0 members x n) is ∙ asks n ∙ ap (subsetOf D) d)
+      pub answered : (a : SearchResult) → resultOf a ≡ searched (costOf listed-weights) (opensAt levels h p m s r P members count) (2 ^ count) 65535
+          → resultAsks members count a ≡ preferredIn levels h p m s r P D ws
+      unfolding first
+      answered a e = go a first all ∙ by-cost D l (weightAt ws) test
+        where
+          all : resultOf a ≡ given first
+          all =
+              e
+              ∙ ap (λ (x : ℕ). searched (costOf listed-weights) (opensAt levels h p m s r P members x) (2 ^ x) 65535) is
+              ∙ searched-alike (costOf listed-weights) cost (opensAt levels h p m s r P members (size D)) (2 ^ size D)
+              (costs-alike D l (weightAt ws) listed-weights weighed) (pow-pos (size D)) 65535
+              ∙ searched-same cost (opensAt levels h p m s r P members (size D)) (λ n. test (questionAt D n)) (2 ^ size D) same-test (pow-pos (size D)) 65535
+              ∙ no-limit cost (λ n. test (questionAt D n)) (2 ^ size D) 65535 few
 
-        go : (a : SearchResult) (o : Option ℕ) → resultOf a ≡ given o → resultAsks members count a ≡ questionFor D o
-        go (Found n q) (some k) f = question n k (cc)
-        go (Found n q) none f = absurd (let z : _≡_ {A = ℕ} 0 1 = cc in omega arith)
-        go (Nothing q) (some k) f = absurd (let z : _≡_ {A = ℕ} 0 1 = cc in omega arith)
-        go (Nothing q) none f = refl
-        go Spent (some k) f = absurd (let z : _≡_ {A = ℕ} 0 1 = cc in omega arith)
-        go Spent none f = absurd (let z : _≡_ {A = ℕ} 0 1 = cc in omega arith)
+          question : (n k : ℕ) → n ≡ k → some (record { asks = switched 0 members count n }) ≡ some (questionAt D k)
+          question n k d =
+              ap (λ (x : ℕ). some (record { asks = x }))
+              (ap (λ (x : ℕ). switched 0 members x n) is ∙ asks n ∙ ap (subsetOf D) d)
+
+          go : (a : SearchResult) (o : Option ℕ) → resultOf a ≡ given o → resultAsks members count a ≡ questionFor D o
+          go (Found n q) (some k) f = question n k (cc)
+          go (Found n q) none f = absurd (let z : _≡_ {A = ℕ} 0 1 = cc in omega arith)
+          go (Nothing q) (some k) f = absurd (let z : _≡_ {A = ℕ} 0 1 = cc in omega arith)
+          go (Nothing q) none f = refl
+          go Spent (some k) f = absurd (let z : _≡_ {A = ℕ} 0 1 = cc in omega arith)
+          go Spent none f = absurd (let z : _≡_ {A = ℕ} 0 1 = cc in omega arith)

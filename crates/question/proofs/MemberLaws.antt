@@ -23,6 +23,30 @@ use Rattle.preference.specs.Subsets.{MembersOf, subsetOf}
 use Rattle.preference.proofs.NumberLaws.{ones-none, ones-size}
 use Rattle.question.proofs.TakingLaws.{Taking, taking-all, taking-more, taking-none}
 
+-- ---- credentials below k are passed, and what is left lies above them
+
+pub above-short : (left k : ℕ) → left < 2 ^ (16 - k) → left ≢ 0 → k < 16
+above-short left k h d = go (decLt k 16)
+  where
+    go : Dec (k < 16) → k < 16
+    go (yes l) = l
+    go (no l) =
+        let z : 16 - k ≡ 0 = omega arith in
+        let o : left < 2 ^ 0 = subst (λ (x : ℕ). left < 2 ^ x) z h in
+        absurd (d (omega arith))
+
+pub above-next : (left k : ℕ) → k < 16 → left < 2 ^ (16 - k) → left / 2 < 2 ^ (16 - (k + 1))
+above-next left k l h =
+    let e : 16 - k ≡ suc (16 - (k + 1)) = omega arith in
+    let t : left < 2 ^ suc (16 - (k + 1)) = subst (λ (x : ℕ). left < 2 ^ x) e h in
+    omega (arith, pow-suc 2 (16 - (k + 1)))
+
+pub ones-next : (left k : ℕ) → k < 16 → onesIn (16 - k) left ≡ left % 2 + onesIn (16 - (k + 1)) (left / 2)
+unfolding onesIn
+ones-next left k l = let e : 16 - k ≡ suc (16 - (k + 1)) = omega arith in ap (λ (y : ℕ). onesIn y left) e
+
+-- ---- members
+
 -- the atoms below k are passed: n of them are members
 pub record Listing (D : ℕ) (members : List ℕ) (left place n k : ℕ) : Type 0 where
   pub long : length members ≡ 16
@@ -124,10 +148,6 @@ module _ (D : ℕ) (members : List ℕ) (left place n k : ℕ) (h : Listing D me
       go (suc (suc v)) i = absurd (omega arith)
   more (suc (suc x)) s m = absurd (omega arith)
 
-  ones-next : onesIn (16 - k) left ≡ left % 2 + onesIn (16 - (k + 1)) (left / 2)
-  unfolding onesIn
-  ones-next = let e : 16 - k ≡ suc (16 - (k + 1)) = omega arith in ap (λ (y : ℕ). onesIn y left) e
-
   pub listing-more : Listing D (set members n place) (left / 2) (2 * place) (n + left % 2) (k + 1)
   unfolding after
   listing-more = record {
@@ -135,7 +155,7 @@ module _ (D : ℕ) (members : List ℕ) (left place n k : ℕ) (h : Listing D me
     few = omega (arith, h .few);
     most = omega arith;
     is = taking-more D 0 k _ place left _ l (h .taking 0) .is;
-    sized = omega (arith, h .sized, ones-next);
+    sized = omega (arith, h .sized, ones-next left k l);
     each = each (left % 2) (omega arith);
     rising = rising (left % 2) (omega arith);
     taking = λ m.
@@ -155,14 +175,7 @@ listed-none D members l e = record { passed = 0; listing = listing-none D member
 
 module _ (D : ℕ) (members : List ℕ) (left place n : ℕ) (h : Listed D members left place n) where
   pub listed-short : left ≢ 0 → h .passed < 16
-  listed-short d = go (decLt (h .passed) 16)
-    where
-      go : Dec (h .passed < 16) → h .passed < 16
-      go (yes l) = l
-      go (no l) =
-          let z : 16 - h .passed ≡ 0 = omega arith in
-          let o : left < 2 ^ 0 = subst (λ (x : ℕ). left < 2 ^ x) z (h .above) in
-          absurd (d (omega arith))
+  listed-short = above-short left (h .passed) (h .above)
 
   pub listed-room : left ≢ 0 → (n < 16) × (place ≤ 32768)
   listed-room d = (omega (arith, h .listing .few, listed-short d), listing-small D members left place n (h .passed) (h .listing) (listed-short d))
@@ -170,12 +183,10 @@ module _ (D : ℕ) (members : List ℕ) (left place n : ℕ) (h : Listed D membe
   pub listed-more : left ≢ 0 → Listed D (set members n place) (left / 2) (2 * place) (n + left % 2)
   listed-more d =
       let l = listed-short d in
-      let e : 16 - h .passed ≡ suc (16 - (h .passed + 1)) = omega arith in
-      let t : left < 2 ^ suc (16 - (h .passed + 1)) = subst (λ (x : ℕ). left < 2 ^ x) e (h .above) in
       record {
         passed = h .passed + 1;
         listing = listing-more D members left place n (h .passed) (h .listing) l;
-        above = omega (arith, pow-suc 2 (16 - (h .passed + 1)));
+        above = above-next left (h .passed) l (h .above);
       }
 
   pub listed-all : D < 2 ^ 16 → left ≡ 0 → MembersOf D members

@@ -2,6 +2,7 @@
 pub mod ReadLaws
 pub mod LevelLaws
 pub mod RuleLaws
+pub mod KindLaws
 pub mod WritingLaws
 pub mod PutLaws
 pub mod TypeLaws

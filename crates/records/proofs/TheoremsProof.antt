@@ -1,6 +1,7 @@
 -- The theorems of specs/Theorems. Assumes nothing.
 use mathlib.Core.Path.{refl}
 use Rattle.records.specs.Theorems.{Theorems}
+use Rattle.records.proofs.KindLaws.{unweighted-iff, weights-aside}
 use Rattle.records.proofs.LevelLaws.{level-atom, level-down}
 use Rattle.records.proofs.PutLaws.{as-long, others, written-there}
 use Rattle.records.proofs.RuleLaws.{every-before, every-whole, whole-records}
@@ -19,6 +20,8 @@ theorems = record {
   as-long = as-long;
   listed = every-whole;
   earlier = every-before;
-  policies = λ bytes. (refl, refl);
+  policies = λ bytes. (refl, (refl, refl));
+  unweighted-ones = unweighted-iff;
+  weights-aside = weights-aside;
   one-to-one = record-one;
 }

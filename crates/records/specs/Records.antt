@@ -1,4 +1,4 @@
--- Document 01, "Atoms and records": what a policy's bytes say. Assumes nothing.
+-- Document 01, "Atoms and records", and document 02, R-2: what a policy's bytes say. Assumes nothing.
 use mathlib.Core.Bool.{cond}
 use mathlib.Core.List.{List, [], _∷_}
 use Prim.Native.Nat.{_*_, _/_, suc, zero, ℕ}
@@ -14,6 +14,10 @@ accessKind = 1
 
 abbrev pub disclosureKind : ℕ
 disclosureKind = 2
+
+-- "A record of kind 3 gives a credential (head) a weight"
+abbrev pub weightKind : ℕ
+weightKind = 3
 
 -- "records of 18 bytes": what one of them says
 pub record Record : Type 0 where

@@ -9,7 +9,7 @@ use Rattle.lists.specs.Lists.{Every}
 use Rattle.atoms.specs.Atoms.{violation}
 use Rattle.rules.specs.Rules.{Rule}
 use Rattle.records.specs.Levels.{level, levelCount}
-use Rattle.records.specs.Policies.{policyOf}
+use Rattle.records.specs.Policies.{policyOf, unweighted}
 use Rattle.records.specs.Records.{Record, recordAt, recordsBefore, recordsOf, rulesOf, wholeRecords}
 use Rattle.records.specs.Types.{recordOf}
 use Rattle.records.specs.Writing.{withRecord, writeRecords}
@@ -39,7 +39,13 @@ pub record Theorems : Type 1 where
       → Every P (rulesOf k bytes) ↔ ((j : ℕ) → 18 * j + 18 ≤ length bytes → recordAt bytes j .kind ≡ k → P (recordAt bytes j .rule))
   -- the records before record k
   pub earlier : (bytes : List ℕ) (k : ℕ) (P : Record → Type 0) → Every P (recordsBefore bytes k) ↔ ((j : ℕ) → j < k → P (recordAt bytes j))
-  -- what a round reads of a policy: the rules of all its records of kind 1, and of all its records of kind 2
-  pub policies : (bytes : List ℕ) → (policyOf bytes .access ≡ rulesOf 1 bytes) × (policyOf bytes .disclosure ≡ rulesOf 2 bytes)
+  -- what a round reads of a policy: the rules of all its records of kind 1, of all its records of kind 2, and of all its records of kind 3
+  pub policies : (bytes : List ℕ)
+      → (policyOf bytes .access ≡ rulesOf 1 bytes) × ((policyOf bytes .disclosure ≡ rulesOf 2 bytes) × (policyOf bytes .weights ≡ rulesOf 3 bytes))
+  -- the records that are no weights: all but those of kind 3, and these only
+  pub unweighted-ones : (ds : List Record) (P : Record → Type 0) → Every P (unweighted ds) ↔ Every (λ d. d .kind ≢ 3 → P d) ds
+  -- records of kind 3 are no rules: policies that are alike without them have the same rules
+  pub weights-aside : (bytes others : List ℕ) → unweighted (recordsOf bytes) ≡ unweighted (recordsOf others)
+      → (policyOf bytes .access ≡ policyOf others .access) × (policyOf bytes .disclosure ≡ policyOf others .disclosure)
   -- what the program's record means is one-to-one
   pub one-to-one : (x y : program.Record) → recordOf x ≡ recordOf y → x ≡ y

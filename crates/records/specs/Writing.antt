@@ -1,10 +1,10 @@
--- Document 01, "Atoms and records": records as their writer writes them. Assumes nothing.
+-- Document 01, "Atoms and records", and document 02, R-2: records as their writer writes them. Assumes nothing.
 use mathlib.Core.List.{List, [], _++_, _∷_}
 use Prim.Native.Nat.{_*_, _+_, ℕ}
 use lib.ListN.{drop, take}
 use Rattle.encoding.specs.LittleEndian.{bytesOf}
 use Rattle.atoms.specs.Sets.{empty, setOf}
-use Rattle.records.specs.Records.{Record, accessKind, disclosureKind}
+use Rattle.records.specs.Records.{Record, accessKind, disclosureKind, weightKind}
 
 unfoldable pub writeRecord : Record → List ℕ
 writeRecord d = d .kind ∷ d .rule .head ∷ (bytesOf 8 (d .rule .positive) ++ bytesOf 8 (d .rule .negated))
@@ -31,3 +31,8 @@ infix 10 disclose_if_
 unfoldable pub disclose_if_ : ℕ → List ℕ → List ℕ
 disclose h if positive =
     writeRecord (record { kind = disclosureKind; rule = record { head = h; positive = setOf positive; negated = empty } })
+
+-- a record of kind 3 that "gives a credential (head) a weight 0 to 15 in its positive set's number": `credential 2 weighing 3` gives credential 2 the weight 3
+infix 10 credential_weighing_
+unfoldable pub credential_weighing_ : ℕ → ℕ → List ℕ
+credential h weighing w = writeRecord (record { kind = weightKind; rule = record { head = h; positive = w; negated = empty } })

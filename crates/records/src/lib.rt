@@ -1,4 +1,4 @@
-// What a policy's bytes say: records, read and written, and levels (document 01, "Atoms and records").
+// What a policy's bytes say: records, read and written, and levels (document 01, "Atoms and records"; weights: document 02, R-2).
 ghost use mathlib.Core.Path.{_≡_};
 ghost use Prim.Native.Nat.{_*_, _+_, _<_, _≤_};
 ghost use lib.ListN.{length};
@@ -12,6 +12,8 @@ pub mod level;
 pub const ACCESS: u8 = 1;
 
 pub const DISCLOSURE: u8 = 2;
+
+pub const WEIGHT: u8 = 3;
 
 // A policy's record.
 pub struct Record {

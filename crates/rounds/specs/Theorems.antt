@@ -47,6 +47,6 @@ pub record Theorems : Type 0 where
       → roundsOf bytes s (m ∷ ms) ≡ record { takes = m; gives = round bytes s m } ∷ roundsOf bytes (round bytes s m .session) ms
   -- what a move shows
   pub shows : (p : ℕ) → showing p .shows ≡ p
-  -- document 01's number of each refusal
+  -- the papers' number of each refusal
   pub numbers : (n : ℕ) → refusalNumber (number n) ≡ n
   pub of-policy : (n k : ℕ) → refusalNumber (ofPolicy (at n k)) ≡ n

@@ -1,4 +1,4 @@
--- The laws of passes, closures, reducts and models.
+-- The laws of passes, closures, reducts, models and weights.
 pub mod ClosureLaws
 pub mod ReductLaws
 pub mod LayoutLaws
@@ -10,4 +10,5 @@ pub mod LevelLaws
 pub mod LevelByLevelLaws
 pub mod LoopLaws
 pub mod UnlockLaws
+pub mod WeightLaws
 pub mod TheoremsProof

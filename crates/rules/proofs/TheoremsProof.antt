@@ -10,6 +10,7 @@ use Rattle.rules.proofs.LevelLaws.{one-stable-any}
 use Rattle.rules.proofs.MeaningLaws.{closed-means, same-stable, stable-means}
 use Rattle.rules.proofs.ReductLaws.{reduct-every}
 use Rattle.rules.proofs.UnlockLaws.{equivalent, grants-means, unlocks-iff}
+use Rattle.rules.proofs.WeightLaws.{named-weight, unnamed-weight}
 
 pub theorems : Theorems
 theorems = record {
@@ -31,4 +32,6 @@ theorems = record {
   passes = closureBy-pass applies;
   idle = closureBy-fixed applies;
   idle-closed = idle-closed;
+  unnamed-weight = unnamed-weight;
+  named-weight = named-weight;
 }

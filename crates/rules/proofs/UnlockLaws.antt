@@ -40,7 +40,7 @@ unlocks-iff lev pol s r C = (
 pub equivalent : (qs rs : List Rule) (r : Rule) (k : ℕ) → Member k (r .positive) → Member k (r .negated) → Equivalent (qs ++ (r ∷ rs)) (qs ++ rs)
 equivalent qs rs r k p n = record {
   stable-sets = same;
-  unlocked = λ ds s C. (
+  unlocked = λ ds ws s C. (
     λ u. record { stable-set = u .stable-set; stable = same C (u .stable-set) .0 (u .stable); service = u .service; no-violation = u .no-violation },
     λ u. record { stable-set = u .stable-set; stable = same C (u .stable-set) .1 (u .stable); service = u .service; no-violation = u .no-violation },
   );

@@ -12,6 +12,7 @@ use Rattle.rules.specs.Policy.{Policy}
 use Rattle.rules.specs.Rules.{Headed, Rule, Stratified}
 use Rattle.rules.specs.Stable.{Closed, Least, OneStable, Stable, reduct}
 use Rattle.rules.specs.Unlocking.{Unlocks, grants, unlocks}
+use Rattle.rules.specs.Weights.{weightAmong}
 
 -- the body of r holds in M: all of its positive part, and none of its negated part
 pub record BodyHolds (M : ℕ) (r : Rule) : Type 0 where
@@ -27,8 +28,8 @@ pub record ClosedBeside (rs : List Rule) (C M X : ℕ) : Type 0 where
 -- and the model is the same where ps keep levels.
 pub record Equivalent (ps qs : List Rule) : Type 0 where
   pub stable-sets : (C M : ℕ) → Stable ps C M ↔ Stable qs C M
-  pub unlocked : (ds : List Rule) (s C : ℕ)
-      → Unlocks (record { access = ps; disclosure = ds }) s C ↔ Unlocks (record { access = qs; disclosure = ds }) s C
+  pub unlocked : (ds ws : List Rule) (s C : ℕ)
+      → Unlocks (record { access = ps; disclosure = ds; weights = ws }) s C ↔ Unlocks (record { access = qs; disclosure = ds; weights = ws }) s C
   pub models : (lev : ℕ → ℕ) → Every (Stratified lev) ps → (C : ℕ) → model ps C ≡ model qs C
 
 pub record Theorems : Type 1 where
@@ -71,3 +72,7 @@ pub record Theorems : Type 1 where
   pub idle : (rs : List Rule) (S : ℕ) → passBy applies rs S ≡ S → closure rs S ≡ S
   -- an idle pass means closed
   pub idle-closed : (rs : List Rule) → Every Headed rs → (S : ℕ) → passBy applies rs S ≡ S → Closed rs S S
+  -- "unnamed ones weigh 1"
+  pub unnamed-weight : (ws : List Rule) (k : ℕ) → Every (λ r. r .head ≡ k → ⊥) ws → weightAmong ws k ≡ 1
+  -- "gives a credential (head) a weight 0 to 15 in its positive set's number": the first that names it does
+  pub named-weight : (ps qs : List Rule) (r : Rule) → Every (λ p. p .head ≡ r .head → ⊥) ps → weightAmong (ps ++ (r ∷ qs)) (r .head) ≡ r .positive

@@ -17,6 +17,7 @@ use Rattle.atoms.proofs.SizeLaws.{size-most}
 use Rattle.rules.specs.Model.{model}
 use Rattle.rules.specs.Policy.{Policy}
 use Rattle.rules.specs.Unlocking.{grants, unlocks}
+use Rattle.rules.specs.Weights.{WeightTable}
 use Rattle.records.specs.Levels.{level, levelCount}
 use Rattle.records.specs.Policies.{policyOf}
 use Rattle.form.specs.PolicyTest.{policyRefusal}
@@ -24,7 +25,7 @@ use Rattle.form.specs.WrittenForm as W
 use Rattle.arrays.specs.Arrays.{LaidOut, evaluated}
 use Rattle.layout.proofs.AccessLaws.{access-levels, access-model}
 use Rattle.disclosure.specs.Disclosure.{disclosable}
-use Rattle.preference.specs.InArrays.{PrefersIn, opensIn}
+use Rattle.preference.specs.InArrays.{opensIn, preferredIn}
 use Rattle.preference.specs.Question.{Question, chosen, noQuestion}
 use Rattle.preference.proofs.QuestionLaws.{chosen-laid}
 use Rattle.rounds.specs.Endings.{Ending, conclude, ending, grant, obtainable}
@@ -53,11 +54,11 @@ module _ (bytes : List ℕ) (b : Bytes bytes) (w : W.WellFormed bytes) (h p m s 
     locked-alone f = ap (λ (y : ℕ). grants r (evaluated levelCount h p m s y)) (union-empty P ∙ sym e) ∙ sym is ∙ f
 
     -- the search has given o
-    pub ends-found : x ≡ false → (D : ℕ) → D ≡ obtainable (policyOf bytes) P N → (o : Option Question)
-        → PrefersIn levelCount h p m s r P D o → conclude false o ≡ ending (policyOf bytes) r P N
+    pub ends-found : x ≡ false → (D : ℕ) → D ≡ obtainable (policyOf bytes) P N → (ws : List ℕ) → WeightTable (policyOf bytes) ws → (o : Option Question)
+        → o ≡ preferredIn levelCount h p m s r P D ws → conclude false o ≡ ending (policyOf bytes) r P N
     unfolding ending
-    ends-found f D d o is =
-        ap (conclude false) (is (policyOf bytes) ∙ chosen-laid level levelCount (policyOf bytes) (access-levels bytes b w) h p m s l r P D ∙ ap (chosen (policyOf bytes) r P) d)
+    ends-found f D d ws t o is =
+        ap (conclude false) (is ∙ chosen-laid level levelCount (policyOf bytes) (access-levels bytes b w) h p m s ws l t r P D ∙ ap (chosen (policyOf bytes) r P) d)
         ∙ ap (λ (y : Bool). conclude y (chosen (policyOf bytes) r P (obtainable (policyOf bytes) P N))) (sym f ∙ unlocked)
 
 -- nothing of what may be asked is shown

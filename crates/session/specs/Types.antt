@@ -1,4 +1,4 @@
--- What the program's types mean: document 01's number and values for each case. Assumes nothing.
+-- What the program's types mean: the papers' number and values for each case. Assumes nothing.
 use mathlib.Core.Option.{Option, none, some}
 use Rattle.validation.specs.Unless.{Unless, given, withheld}
 use Rattle.policy.specs.Types as policy

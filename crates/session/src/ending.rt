@@ -18,6 +18,7 @@ use evaluation::levels::unlocks;
 use layout::access_rules;
 use question::Found;
 use question::preferred;
+use weights::weight_table;
 
 // Under an accepted policy, once these credentials are shown and declined.
 pub(crate) fn ending(policy: &[u8], request: u16, shown: u16, declined: u16) -> Ending
@@ -34,7 +35,17 @@ pub(crate) fn ending(policy: &[u8], request: u16, shown: u16, declined: u16) -> 
         return Ending::Grant;
     }
     let within = obtainable(policy, shown, declined);
-    let found = preferred(&heads, &positive, &negated, &starts, service, shown, within);
+    let weights = weight_table(policy);
+    let found = preferred(
+        &heads,
+        &positive,
+        &negated,
+        &starts,
+        service,
+        shown,
+        within,
+        &weights,
+    );
     concluded(found)
 }
 

@@ -1,4 +1,4 @@
-// Refusals of opening and of a round, and document 01's numbers for them.
+// Refusals of opening and of a round, and the papers' numbers for them.
 ghost use mathlib.Core.Path.{_≡_};
 ghost use Rattle.rounds.specs.Refusals.{refusalNumber};
 ghost use Rattle.session.specs.Types.{refusalOf};
@@ -16,7 +16,7 @@ pub enum Refusal {
 }
 
 impl Refusal {
-    // Document 01's number of the refusal, 1 to 9.
+    // The papers' number of the refusal, 1 to 9, 12 or 13.
     pub fn number(self) -> u8
         ensures { λ r. ⌜ r ≡ refusalNumber (refusalOf self) ⌝ }
     {

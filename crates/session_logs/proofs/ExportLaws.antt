@@ -15,6 +15,7 @@ use Rattle.atoms.proofs.SetLaws.{none-in-empty}
 use Rattle.records.specs.Policies.{policyOf}
 use Rattle.form.specs.PolicyTest.{policyRefusal}
 use Rattle.form.specs.WrittenForm as W
+use Rattle.form.proofs.NumberLaws.{small-number}
 use Rattle.form.proofs.PolicyLaws.{disclosure-heads}
 use Rattle.form.proofs.TheoremsProof as policies
 use Rattle.preference.specs.Question.{Question}
@@ -126,9 +127,9 @@ no-session-record policy before b p u room = go (policyRefusal policy) refl
         → (let c = roundCall policy before p in recordCall p (c .reply) (c .leaves) room ≡ record { reply = 0; leaves = room })
     go none e = none-in 8 (λ z. omega (arith, z)) (packing.theorems .no-session policy b (policies.theorems .tested policy b .accepts .0 e) before p u)
     go (some (W.at n k)) e =
-        let (least, most) = policies.theorems .numbers policy b .only n k e in
-        none-in (n + 0x100 * k) (λ z. omega (arith, z, least, most))
-        (packing.theorems .untested policy b (W.at n k) (policies.theorems .tested policy b .refuses (W.at n k) .0 e) before p u)
+        let f = policies.theorems .tested policy b .refuses (W.at n k) .0 e in
+        let (least, most) = small-number policy n k f in
+        none-in (n + 0x100 * k) (λ z. omega (arith, z, least, most)) (packing.theorems .untested policy b (W.at n k) f before p u)
 
 -- ---- any call
 

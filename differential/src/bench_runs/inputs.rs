@@ -7,6 +7,7 @@ use crate::plain::session::{open, round, Ending};
 use crate::policies;
 use crate::random::Random;
 use crate::report::Trail;
+use crate::weighing;
 
 /// What stands as policy.bin.
 pub enum File {
@@ -26,6 +27,12 @@ fn file(random: &mut Random) -> File {
         1 => File::Folder,
         2 => File::Bytes(vec![1; random.pick(&[2304, 2305, 2306, 4000, 70000])]),
         3..=8 => File::Bytes(damaged(random)),
+        9 | 10 => File::Bytes(policies::encode(&weighing::edges(random))),
+        11 => {
+            let mut records = policies::accepted(random);
+            weighing::insert_second(random, &mut records);
+            File::Bytes(policies::encode(&records))
+        }
         _ => File::Bytes(policies::encode(&policies::accepted(random))),
     }
 }

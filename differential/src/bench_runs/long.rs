@@ -3,6 +3,7 @@
 use crate::plain::policy::Record;
 use crate::policies::{access, disclosure};
 use crate::random::Random;
+use crate::weighing::weigh;
 
 /// The service of all of them, but for the one that document 02 names.
 const SERVICE: u8 = 40;
@@ -50,12 +51,14 @@ fn singles(random: &mut Random) -> Vec<Record> {
     records
 }
 
-/// Records, and the service to ask for.
+/// Records, and the service to ask for; in half of them there are weights.
 pub fn long(random: &mut Random) -> (Vec<Record>, u16) {
-    match random.below(4) {
+    let (mut records, service) = match random.below(4) {
         0 => (longest(random.below(17) as u8), 16),
         1 => (longest(random.range(13, 16) as u8), 16),
         2 => (singles(random), SERVICE.into()),
         _ => (many_ways(random), SERVICE.into()),
-    }
+    };
+    weigh(random, &mut records);
+    (records, service)
 }

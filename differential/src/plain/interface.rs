@@ -8,7 +8,7 @@ use super::policy::{check, Refusal};
 use super::session::{open, round, Ending, Phase, Session, Verdict};
 use crate::calls::{asked_of, Call, Memory, Version, PART};
 
-/// "refused with that number, 1 to 9; with 1 to 6 byte 1 is the number of the policy's record"
+/// Byte 0 is the number of the refusal, byte 1 that of the policy's record, where it has one.
 pub fn refusal_reply(refusal: Refusal) -> u32 {
     u32::from(refusal.number) | u32::from(refusal.record.unwrap_or(0)) << 8
 }

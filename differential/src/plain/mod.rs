@@ -1,4 +1,5 @@
-//! Document 01, and document 02's logs, in plain Rust, written from the papers alone: each function has the paper's sentence above it.
+//! Document 01, and document 02's logs and weights, in plain Rust, written from the papers alone: each function has the paper's
+//! sentence above it.
 
 pub mod bench;
 pub mod disclosure;
@@ -8,3 +9,4 @@ pub mod log;
 pub mod model;
 pub mod policy;
 pub mod session;
+pub mod weights;

@@ -1,4 +1,4 @@
-//! Policies: records and the policy's test ("Atoms and records", "Who can be turned back").
+//! Policies: records and the policy's test ("Atoms and records", "Who can be turned back"; document 02, R-2).
 
 /// "63 is the breach mark"
 pub const BREACH: u8 = 63;
@@ -13,6 +13,10 @@ pub const MOST_BYTES: usize = 2304;
 pub const ACCESS: u8 = 1;
 pub const DISCLOSURE: u8 = 2;
 
+/// "A record of kind 3 gives a credential (head) a weight 0 to 15 in its positive set's number"
+pub const WEIGHT: u8 = 3;
+pub const MOST_WEIGHT: u64 = 15;
+
 /// What 18 bytes say.
 #[derive(Clone, Copy, PartialEq, Eq, Debug)]
 pub struct Record {
@@ -24,7 +28,7 @@ pub struct Record {
     pub negative: u64,
 }
 
-/// "Only the first that applies is given": a number, and a record number with 1 to 6.
+/// "Only the first that applies is given": a number, and a record number with 1 to 6, 12 and 13.
 #[derive(Clone, Copy, PartialEq, Eq, Debug)]
 pub struct Refusal {
     pub number: u8,
@@ -49,11 +53,12 @@ impl Refusal {
     }
 }
 
-/// An accepted policy's rules of each kind, in the order of the records.
+/// An accepted policy's records of each kind, in their order.
 #[derive(Clone, Default)]
 pub struct Policy {
     pub access: Vec<Record>,
     pub disclosure: Vec<Record>,
+    pub weights: Vec<Record>,
 }
 
 /// The atoms of a set: "A set of atoms is a 64-bit number, bit k standing for atom k"
@@ -87,7 +92,7 @@ pub fn level(atom: u8) -> u8 {
     }
 }
 
-/// "An access head is 16 to 63." "A disclosure head is 0 to 15"
+/// "An access head is 16 to 63." "A disclosure head is 0 to 15"; kind 3 "has heads 0 to 15 by 4"
 fn head_allowed(record: &Record) -> bool {
     if record.kind == ACCESS {
         (16..=63).contains(&record.head)
@@ -113,12 +118,26 @@ fn levels_kept(record: &Record) -> bool {
             && atoms(record.negative).all(|atom| level(atom) < head)
 }
 
-/// "3: kind neither 1 nor 2. 4: head not allowed for the kind. 5: body atom not allowed for the kind. 6: level broken."
-fn fault(record: &Record) -> Option<u8> {
-    if record.kind != ACCESS && record.kind != DISCLOSURE {
+/// "12, weight above 15 or negated set not empty; 13, a second weight for one credential, even by an equal record come twice"
+fn weight_fault(record: &Record, earlier: &[Record]) -> Option<u8> {
+    if record.positive > MOST_WEIGHT || record.negative != 0 {
+        Some(12)
+    } else if earlier.iter().any(|other| other.head == record.head) {
+        Some(13)
+    } else {
+        None
+    }
+}
+
+/// "3: kind neither 1 nor 2. 4: head not allowed for the kind. 5: body atom not allowed for the kind. 6: level broken." "Kind 3
+/// passes 3, has heads 0 to 15 by 4, and is tested by 12 and 13 instead of 5 and 6"
+fn fault(record: &Record, earlier: &Policy) -> Option<u8> {
+    if ![ACCESS, DISCLOSURE, WEIGHT].contains(&record.kind) {
         Some(3)
     } else if !head_allowed(record) {
         Some(4)
+    } else if record.kind == WEIGHT {
+        weight_fault(record, &earlier.weights)
     } else if !body_allowed(record) {
         Some(5)
     } else if !levels_kept(record) {
@@ -139,13 +158,13 @@ pub fn check(policy: &[u8]) -> Result<Policy, Refusal> {
     let mut rules = Policy::default();
     for (k, bytes) in policy.chunks(RECORD_BYTES).enumerate() {
         let record = read(bytes);
-        if let Some(number) = fault(&record) {
+        if let Some(number) = fault(&record, &rules) {
             return Err(Refusal::by_writer(number, k));
         }
-        if record.kind == ACCESS {
-            rules.access.push(record);
-        } else {
-            rules.disclosure.push(record);
+        match record.kind {
+            ACCESS => rules.access.push(record),
+            DISCLOSURE => rules.disclosure.push(record),
+            _ => rules.weights.push(record),
         }
     }
     Ok(rules)

@@ -3,6 +3,7 @@
 use super::disclosure::disclosable;
 use super::model::unlocks;
 use super::policy::{check, Policy, Refusal};
+use super::weights::{by_preference, weights};
 
 #[derive(Clone, Copy, PartialEq, Eq, Debug)]
 pub enum Verdict {
@@ -76,18 +77,6 @@ pub fn sound(session: &Session) -> bool {
         }
 }
 
-/// The subsets of a set: "The preferred set has the fewest credentials, counted as one bits; among those, the smallest as a
-/// number."
-fn by_preference(set: u16) -> Vec<u16> {
-    let mut subsets = vec![0];
-    while subsets.last() != Some(&set) {
-        let last = subsets[subsets.len() - 1];
-        subsets.push(last.wrapping_sub(set) & set);
-    }
-    subsets.sort_by_key(|subset| (subset.count_ones(), *subset));
-    subsets
-}
-
 /// "if P unlocks the request, grant, closed; otherwise D is the disclosable set of P without P and without N; among subsets of D
 /// that with P unlock the request, the preferred one is asked and becomes Q; if there is none, deny, closed"
 pub fn ending(policy: &Policy, request: u16, shown: u16, declined: u16) -> Ending {
@@ -95,7 +84,7 @@ pub fn ending(policy: &Policy, request: u16, shown: u16, declined: u16) -> Endin
         return Ending::Grant;
     }
     let may_ask = disclosable(&policy.disclosure, shown) & !shown & !declined;
-    let found = by_preference(may_ask)
+    let found = by_preference(&weights(&policy.weights), may_ask)
         .into_iter()
         .find(|asked| unlocks(&policy.access, request, shown | asked));
     match found {
@@ -104,7 +93,7 @@ pub fn ending(policy: &Policy, request: u16, shown: u16, declined: u16) -> Endin
     }
 }
 
-/// "Only the first that applies is given, in number order": 1 to 6 of the policy, then 7, 8, 9.
+/// "Only the first that applies is given, in number order": those of the policy's test, then 7, 8, 9.
 fn admit(policy: &[u8], session: &Session) -> Result<Policy, Refusal> {
     let rules = check(policy)?;
     if !is_service(session.request) {

@@ -1,4 +1,4 @@
-//! Rounds that are made so that the question has a given size among so many that may be asked.
+//! Rounds that are made so that the question has a given size among so many that may be asked; and such rounds with weights.
 
 mod rules;
 mod shapes;
@@ -8,11 +8,13 @@ use crate::candidates::{number, subset};
 use crate::counts::Kind;
 use crate::plain::disclosure::disclosable;
 use crate::plain::interface::{decode, encode};
+use crate::plain::policy::Record;
 use crate::plain::session::{open, Phase, Session};
 use crate::policies;
 use crate::question_counts::classes::{classes, Round};
 use crate::random::Random;
 use crate::tester::Tester;
+use crate::weighing::weights;
 use rules::{records, Sides, LEAST_SERVICE};
 use shapes::{wanted, Shape, SHAPES};
 
@@ -72,11 +74,14 @@ fn session(random: &mut Random, sides: &Sides, service: u16) -> Option<(Session,
     Some((waiting, sides.shown & question))
 }
 
-/// Counts what is to be told of the question that a round has given.
+/// Counts what is to be told of the question that a round has given; under weights blocks have another order.
 fn count_classes(tester: &mut Tester, memory: Memory) {
     let (Some(rules), Some(session)) = (tester.rules(), decode(memory.session())) else {
         return;
     };
+    if !rules.weights.is_empty() {
+        return;
+    }
     let Phase::Waiting(asked) = session.phase else {
         return;
     };
@@ -103,13 +108,32 @@ fn round(tester: &mut Tester, p: u16, memory: Memory) -> Option<(u16, Memory)> {
     Some((asked_of(after.session()), after))
 }
 
-/// A policy under which the sets of these numbers unlock, a session made for the round, and the round.
-fn made(tester: &mut Tester, members: usize, numbers: &[u16]) -> Option<(u16, Memory)> {
+/// Weights of all sixteen, or of some.
+fn weighed(random: &mut Random) -> Vec<Record> {
+    let weights = weights(random);
+    let named = match random.one_in(2) {
+        true => 0xffff,
+        false => random.credentials(0xffff),
+    };
+    let heads = (0..16).filter(|k| named >> k & 1 == 1);
+    heads
+        .map(|k| policies::weight(k, weights[usize::from(k)].into()))
+        .collect()
+}
+
+/// A policy under which the sets of these numbers unlock, with these weights, a session made for the round, and the round.
+fn made(
+    tester: &mut Tester,
+    members: usize,
+    numbers: &[u16],
+    weights: Vec<Record>,
+) -> Option<(u16, Memory)> {
     let random = &mut tester.random;
     let sides = sides(random, members);
     let service = random.range(LEAST_SERVICE, 62) as u8;
     let sets: Vec<u16> = numbers.iter().map(|n| subset(*n, sides.may_ask)).collect();
-    let records = records(random, &sides, service, &sets);
+    let mut records = records(random, &sides, service, &sets);
+    records.extend(weights);
     let (session, p) = session(random, &sides, service.into())?;
     tester.set_policy(policies::encode(&records));
     let memory = tester.memory_with(encode(&session));
@@ -125,7 +149,11 @@ pub fn questions(tester: &mut Tester) {
     };
     let shape = tester.random.pick(&SHAPES);
     let numbers = wanted(&mut tester.random, shape, members, size);
-    let mut last = made(tester, members, &numbers);
+    let weights = match tester.random.one_in(2) {
+        true => weighed(&mut tester.random),
+        false => Vec::new(),
+    };
+    let mut last = made(tester, members, &numbers, weights);
     while let Some((asked, memory)) = last {
         if tester.random.one_in(2) {
             return;
@@ -141,7 +169,9 @@ pub fn every_size(tester: &mut Tester) {
         for size in 1..=members {
             for shape in SHAPES {
                 let numbers = wanted(&mut tester.random, shape, members, size);
-                made(tester, members, &numbers);
+                made(tester, members, &numbers, Vec::new());
+                let weights = weighed(&mut tester.random);
+                made(tester, members, &numbers, weights);
             }
         }
     }
@@ -151,10 +181,12 @@ pub fn every_size(tester: &mut Tester) {
 pub fn every_block(tester: &mut Tester) {
     for block in 0..=255u16 {
         let lane = tester.random.range(1, 255) as u16;
-        made(tester, 16, &[block << 8 | lane]);
+        let weights = weighed(&mut tester.random);
+        made(tester, 16, &[block << 8 | lane], Vec::new());
+        made(tester, 16, &[block << 8 | lane], weights);
         let members = tester.random.range(8, 12);
         let other = tester.random.below(1 << (members - 8)) as u16;
-        made(tester, members, &[other << 8 | block]);
-        made(tester, 9, &[1 << 8 | block]);
+        made(tester, members, &[other << 8 | block], Vec::new());
+        made(tester, 9, &[1 << 8 | block], Vec::new());
     }
 }

@@ -6,6 +6,7 @@ mod model;
 mod names;
 mod policy;
 mod round;
+mod weights;
 
 pub use names::{Slip, Slipped, CONTROLS, SLIPS};
 

@@ -91,15 +91,17 @@ impl Slipped {
             Slip::DenyUnlooked => return None,
             Slip::AsksAll => return opens(d).then_some(d),
             Slip::Irreducible => return self.irreducible(rules, session, d),
-            _ if self.by_blocks() => return self.preferred_by_blocks(d, opens),
             _ => {}
+        }
+        let weights = self.weights(&rules.weights, d);
+        if self.by_blocks() {
+            return self.preferred_by_blocks(d, &weights, opens);
         }
         let mut subsets = vec![0u16];
         while subsets[subsets.len() - 1] != d {
             subsets.push(subsets[subsets.len() - 1].wrapping_sub(d) & d);
         }
-        let turned = if self.is(Slip::LargestTie) { 0xffff } else { 0 };
-        subsets.sort_by_key(|set| (set.count_ones(), *set ^ turned));
+        subsets.sort_by_cached_key(|set| self.key(&weights, *set));
         match self.0 {
             Slip::LargeQuestion => subsets.retain(|set| set.count_ones() <= 6),
             Slip::TwoHundredTrials => subsets.truncate(200),

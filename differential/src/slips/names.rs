@@ -59,6 +59,8 @@ pub enum Slip {
     LowEight,
     FewInOrder,
     FourMembers,
+    BlocksUnweighed,
+    NinthMember,
     CountBefore,
     LogBigEndian,
     RefusedLogged,
@@ -84,6 +86,33 @@ pub enum Slip {
     CountCompared,
     ShownCompared,
     PlaceCleared,
+    EqualAccepted,
+    EarlierNamed,
+    ThirteenFirst,
+    ThirteenLast,
+    NextAlone,
+    AcrossKinds,
+    SixteenAccepted,
+    FifteenRefused,
+    WeightLowByte,
+    WeightNegated,
+    ThreeRefused,
+    WeightHead,
+    BodyOfWeight,
+    UnnamedZero,
+    ZeroAsOne,
+    NextCredential,
+    HighHeads,
+    MembersTurned,
+    ByMember,
+    WeightUnread,
+    SizeFirst,
+    SizeLeftOut,
+    LargestLight,
+    WeightCapped,
+    HeaviestMember,
+    WeightAskable,
+    WeightDiscloses,
 }
 
 /// The same code with nothing wrong in it, its candidates sorted, and by blocks.
@@ -93,7 +122,7 @@ pub const CONTROLS: [(Slip, &str); 2] = [
 ];
 
 /// Each slip with what is wrong.
-pub const SLIPS: [(Slip, &str); 80] = [
+pub const SLIPS: [(Slip, &str); 109] = [
     (
         Slip::BreachUnread,
         "grants on the service alone, the breach mark unread",
@@ -237,6 +266,14 @@ pub const SLIPS: [(Slip, &str); 80] = [
         "four members taken as few, the fourth never tried",
     ),
     (
+        Slip::BlocksUnweighed,
+        "by blocks: blocks in order as if each credential weighed 1",
+    ),
+    (
+        Slip::NinthMember,
+        "by blocks: from the ninth member on, each weighs 1",
+    ),
+    (
         Slip::CountBefore,
         "log record: the count of the round before",
     ),
@@ -290,6 +327,69 @@ pub const SLIPS: [(Slip, &str); 80] = [
     (
         Slip::PlaceCleared,
         "logs: the record's number cleared where they do not part",
+    ),
+    (
+        Slip::EqualAccepted,
+        "a second weight by an equal record accepted",
+    ),
+    (
+        Slip::EarlierNamed,
+        "13 with the number of the earlier record",
+    ),
+    (Slip::ThirteenFirst, "13 tested before 12"),
+    (
+        Slip::ThirteenLast,
+        "13 tested after all records passed the rest",
+    ),
+    (
+        Slip::NextAlone,
+        "13 only where the two records stand next to each other",
+    ),
+    (
+        Slip::AcrossKinds,
+        "13 where a disclosure rule has the same head",
+    ),
+    (Slip::SixteenAccepted, "weight 16 accepted"),
+    (Slip::FifteenRefused, "weight 15 refused 12"),
+    (Slip::WeightLowByte, "a weight read from the low byte alone"),
+    (
+        Slip::WeightNegated,
+        "kind 3 with something negated accepted",
+    ),
+    (Slip::ThreeRefused, "kind 3 refused 3"),
+    (Slip::WeightHead, "kind 3 with head 16 accepted"),
+    (
+        Slip::BodyOfWeight,
+        "kind 3 tested by 5 as a disclosure rule is",
+    ),
+    (Slip::UnnamedZero, "unnamed ones weigh 0"),
+    (Slip::ZeroAsOne, "weight 0 taken as 1"),
+    (
+        Slip::NextCredential,
+        "each credential has the weight of the next",
+    ),
+    (Slip::HighHeads, "weights of credentials 8 to 15 unread"),
+    (
+        Slip::MembersTurned,
+        "the weights of the members of D the other way round",
+    ),
+    (Slip::ByMember, "weights by place among the members of D"),
+    (Slip::WeightUnread, "weights not read"),
+    (Slip::SizeFirst, "fewest first, then by weight"),
+    (Slip::SizeLeftOut, "of equal weight the smallest number"),
+    (
+        Slip::LargestLight,
+        "under weights, ties broken by the largest number",
+    ),
+    (Slip::WeightCapped, "a total weight above 15 taken as 15"),
+    (
+        Slip::HeaviestMember,
+        "the weight of the heaviest member in place of the total",
+    ),
+    (Slip::WeightAskable, "a weight makes its credential askable"),
+    (
+        Slip::WeightDiscloses,
+        "kind 3 taken for a disclosure rule too",
     ),
 ];
 

@@ -1,7 +1,7 @@
 //! Slips in the policy's test.
 
 use super::names::{Slip, Slipped};
-use crate::plain::policy::{atoms, level, read, Policy, Record, Refusal};
+use crate::plain::policy::{atoms, level, read, Policy, Record, Refusal, WEIGHT};
 
 impl Slipped {
     fn read(&self, bytes: &[u8]) -> Record {
@@ -37,13 +37,17 @@ impl Slipped {
         atoms(record.positive).any(positive) || atoms(record.negative).any(negative)
     }
 
-    fn fault(&self, record: &Record) -> Option<u8> {
+    /// What is wrong with a record, with these before it.
+    fn fault(&self, record: &Record, before: &[Record]) -> Option<u8> {
         let access = record.kind == 1;
         let body = record.positive | record.negative;
         let breach = body >> 63 == 1 && !self.is(Slip::BreachInBody);
         match (record.kind, record.head) {
+            (3, _) if self.is(Slip::ThreeRefused) => return Some(3),
+            (3, 16) if self.is(Slip::WeightHead) => return None,
+            (3, 0..=15) => return self.weight_fault(record, before),
             (1, 16..=63) | (2, 0..=15) => {}
-            (1 | 2, _) => return Some(4),
+            (1..=3, _) => return Some(4),
             _ => return Some(3),
         }
         if access && breach || !access && (record.positive > 0xffff || record.negative != 0) {
@@ -57,11 +61,15 @@ impl Slipped {
         let mut faults = records
             .iter()
             .enumerate()
-            .filter_map(|(k, record)| Some((k, self.fault(record)?)));
-        if self.is(Slip::RecordOrder) {
-            faults.min_by_key(|(k, number)| (*number, *k))
-        } else {
-            faults.next()
+            .filter_map(|(k, record)| Some((k, self.fault(record, &records[..k])?)));
+        let (k, number) = match self.0 {
+            Slip::RecordOrder => faults.min_by_key(|(k, number)| (*number, *k)),
+            Slip::ThirteenLast => faults.min_by_key(|(k, number)| (*number == 13, *k)),
+            _ => faults.next(),
+        }?;
+        match number {
+            13 => Some((self.second_at(records, k), number)),
+            _ => Some((k, number)),
         }
     }
 
@@ -80,8 +88,15 @@ impl Slipped {
             return Err(Refusal::by_writer(number, k));
         }
         let most = if self.is(Slip::LastRecord) { 127 } else { 128 };
-        let read = records.iter().take(most);
-        let (access, disclosure) = read.partition(|record| record.kind == 1);
-        Ok(Policy { access, disclosure })
+        let of_kind = |kind: u8| {
+            let read = records.iter().take(most);
+            read.filter(move |record| record.kind == kind).copied()
+        };
+        let weights: Vec<Record> = of_kind(WEIGHT).collect();
+        Ok(Policy {
+            access: of_kind(1).collect(),
+            disclosure: of_kind(2).chain(self.disclosed(&weights)).collect(),
+            weights,
+        })
     }
 }

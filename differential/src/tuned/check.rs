@@ -42,6 +42,35 @@ fn right(bytes: &[u8; 18]) -> bool {
     word(&bytes[2..10]) & positive | word(&bytes[10..18]) & negative == 0
 }
 
+/// Accepted records, and whether one of them gives a weight.
+#[derive(Clone, Copy)]
+pub struct Accepted<'a> {
+    pub records: &'a [[u8; 18]],
+    pub weighed: bool,
+}
+
+impl Accepted<'_> {
+    /// The weight of each credential.
+    pub fn weights(&self) -> [u8; 16] {
+        let mut weights = [1; 16];
+        for bytes in self.records.iter().filter(|bytes| bytes[0] == 3) {
+            weights[usize::from(bytes[1] & 15)] = bytes[2];
+        }
+        weights
+    }
+}
+
+/// Whether a record gives a weight, and is right beside the credentials that have one already.
+fn weighs(bytes: &[u8; 18], weighed: &mut u16) -> bool {
+    let [kind, head, ..] = *bytes;
+    if kind != 3 || head > 15 || word(&bytes[2..10]) > 15 || word(&bytes[10..18]) != 0 {
+        return false;
+    }
+    let before = *weighed;
+    *weighed |= 1 << head;
+    *weighed != before
+}
+
 /// The first fault of a record that is not right.
 #[cold]
 fn fault(bytes: &[u8; 18]) -> u8 {
@@ -51,14 +80,31 @@ fn fault(bytes: &[u8; 18]) -> u8 {
         1 if !(16..64).contains(&head) => 4,
         1 if (positive | negative) >> 63 != 0 => 5,
         1 => 6,
-        2 if head > 15 => 4,
+        2 | 3 if head > 15 => 4,
         2 => 5,
+        3 if positive > 15 || negative != 0 => 12,
+        3 => 13,
         _ => 3,
     }
 }
 
-/// The policy's test: whether a record is right, in one step, and only of one that is not, what is wrong.
-pub fn check(policy: &[u8]) -> Result<&[[u8; 18]], Refusal> {
+/// The test from the first record on that is no right rule: it gives a weight, or is wrong.
+#[inline(never)]
+fn check_from(records: &[[u8; 18]], first: usize) -> Result<Accepted<'_>, Refusal> {
+    let mut weighed = 0;
+    let wrong = |record: &[u8; 18]| !right(record) && !weighs(record, &mut weighed);
+    match records[first..].iter().position(wrong) {
+        Some(k) => Err(Refusal::by_writer(fault(&records[first + k]), first + k)),
+        None => Ok(Accepted {
+            records,
+            weighed: true,
+        }),
+    }
+}
+
+/// The policy's test: whether a record is a right rule, in one step, and only of one that is not, whether it gives a weight, or
+/// what is wrong.
+pub fn check(policy: &[u8]) -> Result<Accepted<'_>, Refusal> {
     if policy.len() > 2304 {
         return Err(Refusal::by_writer(1, 128));
     }
@@ -67,7 +113,10 @@ pub fn check(policy: &[u8]) -> Result<&[[u8; 18]], Refusal> {
         return Err(Refusal::by_writer(2, records.len()));
     }
     match records.iter().position(|record| !right(record)) {
-        Some(k) => Err(Refusal::by_writer(fault(&records[k]), k)),
-        None => Ok(records),
+        Some(first) => check_from(records, first),
+        None => Ok(Accepted {
+            records,
+            weighed: false,
+        }),
     }
 }

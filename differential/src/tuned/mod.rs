@@ -2,10 +2,11 @@
 //! Rust makes it. The differential tests hold it against the plain version too.
 
 mod check;
+pub(crate) mod order;
 mod rules;
 mod search;
 
-pub use check::check;
+pub use check::{check, Accepted};
 pub(crate) use rules::Access;
 
 use crate::calls::{Call, Memory, Version};
@@ -13,33 +14,36 @@ use crate::plain::interface::{call_round, encode, refusal_reply};
 use crate::plain::policy::Refusal;
 use crate::plain::session::{is_service, open, sound, Ending, Phase, Session, Verdict};
 use rules::Disclosures;
-use search::preferred;
+use search::{preferred, preferred_by_weight};
 
 pub fn model(policy: &[u8], credentials: u16) -> Result<u64, Refusal> {
-    Ok(Access::new(check(policy)?).levels().model(credentials))
+    let accepted = check(policy)?;
+    Ok(Access::new(accepted.records).levels().model(credentials))
 }
 
 pub fn disclosable(policy: &[u8], shown: u16) -> Result<u16, Refusal> {
-    Ok(Disclosures::new(check(policy)?).disclosable(shown))
+    Ok(Disclosures::new(check(policy)?.records).disclosable(shown))
 }
 
 /// How a round under accepted records ends with this shown and declined.
-pub fn ending(records: &[[u8; 18]], service: u16, shown: u16, declined: u16) -> Ending {
-    let access = Access::new(records);
+pub fn ending(accepted: Accepted, service: u16, shown: u16, declined: u16) -> Ending {
+    let access = Access::new(accepted.records);
     let levels = access.levels();
     if levels.unlocks(service, shown) {
         return Ending::Grant;
     }
-    let disclosable = Disclosures::new(records).disclosable(shown);
-    match preferred(&levels, service, shown, disclosable & !shown & !declined) {
-        Some(asked) => Ending::Ask(asked),
-        None => Ending::Deny,
-    }
+    let disclosable = Disclosures::new(accepted.records).disclosable(shown);
+    let may_ask = disclosable & !shown & !declined;
+    let found = match accepted.weighed {
+        false => preferred(&levels, service, shown, may_ask),
+        true => preferred_by_weight(&levels, service, shown, may_ask, &accepted.weights()),
+    };
+    found.map_or(Ending::Deny, Ending::Ask)
 }
 
 /// A round in a session, tested first.
 pub fn round(policy: &[u8], session: &Session, p: u16) -> Result<(Ending, Session), Refusal> {
-    let records = check(policy)?;
+    let accepted = check(policy)?;
     if !is_service(session.request) {
         return Err(Refusal::without_record(7));
     }
@@ -52,7 +56,7 @@ pub fn round(policy: &[u8], session: &Session, p: u16) -> Result<(Ending, Sessio
         Phase::Fresh => 0,
     };
     let (shown, declined) = (session.shown | p, session.declined | question & !p);
-    let ending = ending(records, session.request, shown, declined);
+    let ending = ending(accepted, session.request, shown, declined);
     let phase = match ending {
         Ending::Grant => Phase::Closed(Verdict::Grant),
         Ending::Deny => Phase::Closed(Verdict::Deny),

@@ -1,5 +1,6 @@
 //! The preferred question.
 
+use super::order::{first_of, members};
 use super::rules::Levels;
 
 /// The n lowest members of a set, for each n up to its size.
@@ -37,4 +38,21 @@ pub fn preferred(levels: &Levels, service: u16, shown: u16, may_ask: u16) -> Opt
         }
     }
     None
+}
+
+/// The same by weights; where those that may be asked weigh the same, they decide nothing.
+pub fn preferred_by_weight(
+    levels: &Levels,
+    service: u16,
+    shown: u16,
+    may_ask: u16,
+    weights: &[u8; 16],
+) -> Option<u16> {
+    let members = members(weights, may_ask);
+    if members.windows(2).all(|pair| pair[0].0 == pair[1].0) {
+        return preferred(levels, service, shown, may_ask);
+    }
+    let all = (1 << members.len()) - 1;
+    let found = first_of(members, all, |set| levels.unlocks(service, shown | set));
+    found.map(|(_, set)| set)
 }

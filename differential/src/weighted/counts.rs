@@ -1,10 +1,11 @@
 //! Which searches by weights came up in a run.
 
-use super::plain::{answer, candidates, weight};
+use super::plain::{answer, candidates};
 use super::{Answer, Search};
 use crate::candidates::number;
 use crate::plain::model::unlocks;
 use crate::plain::policy::check;
+use crate::plain::weights::total_weight;
 
 pub const CLASSES: [&str; 17] = [
     "found",
@@ -48,7 +49,7 @@ fn ties(policy: &[u8], search: &Search, set: u16) -> [bool; 2] {
     if all.len() > FEW {
         return [false; 2];
     }
-    let weight = |set: u16| weight(&search.weights, set);
+    let weight = |set: u16| total_weight(&search.weights, set);
     let light = all.into_iter().filter(|other| {
         let opens = || unlocks(&rules.access, search.request, search.shown | other);
         *other != set && weight(*other) == weight(set) && opens()
@@ -73,7 +74,7 @@ fn found(policy: &[u8], search: &Search, trials: u32, set: u16) -> [bool; 8] {
     let larger = smallest.count_ones() < set.count_ones();
     let [light, small] = ties(policy, search, set);
     let free = (0..16).any(|k| set >> k & 1 == 1 && search.weights[k] == 0);
-    let heavy = weight(&search.weights, set) > 255;
+    let heavy = total_weight(&search.weights, set) > 255;
     let later = number(set, search.within & !search.shown) > 255;
     let past = trials > 256;
     [other, light, small, free, past, heavy, later, larger]

@@ -4,20 +4,11 @@ use super::{Answer, Search};
 use crate::plain::model::unlocks;
 use crate::plain::policy::check;
 use crate::plain::session::is_service;
+use crate::plain::weights::by_preference;
 
-/// The sum of the weights of a set's members.
-pub fn weight(weights: &[u8; 16], set: u16) -> u32 {
-    (0..16)
-        .filter(|k| set >> k & 1 == 1)
-        .map(|k| u32::from(weights[k]))
-        .sum()
-}
-
-/// The subsets but the empty one, by "the least total weight, then the fewest credentials, then the smallest number".
+/// The subsets but the empty one, which comes first.
 pub fn candidates(weights: &[u8; 16], within: u16) -> Vec<u16> {
-    let mut subsets: Vec<u16> = (1..=within).filter(|set| set & !within == 0).collect();
-    subsets.sort_by_key(|set| (weight(weights, *set), set.count_ones(), *set));
-    subsets
+    by_preference(weights, within).split_off(1)
 }
 
 /// One candidate after the other until one unlocks, none is left, or the limit is reached. Where the shown set alone unlocks,

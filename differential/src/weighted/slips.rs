@@ -1,10 +1,10 @@
 //! Searches by weights that are wrong on purpose: the comparison must find out every one of them.
 
-use super::plain::weight;
 use super::{Answer, Search};
 use crate::plain::model::unlocks;
 use crate::plain::policy::check;
 use crate::plain::session::is_service;
+use crate::plain::weights::total_weight;
 
 #[derive(Clone, Copy, PartialEq, Eq, Debug)]
 pub enum Slip {
@@ -86,7 +86,7 @@ impl Slip {
     }
 
     fn key(self, weights: &[u8; 16], set: u16) -> (u32, u32, u16) {
-        let (weight, count) = (weight(weights, set), set.count_ones());
+        let (weight, count) = (total_weight(weights, set), set.count_ones());
         match self {
             Slip::CountUnread => (weight, 0, set),
             Slip::CountFirst => (count, weight, set),

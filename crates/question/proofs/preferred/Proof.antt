@@ -19,12 +19,16 @@ count-requires c κs = search needs
 cast-count : tie.Need-cast-count
 cast-count c = search needs
 
+write-weights-requires : tie.Need-write-weights-requires
+write-weights-requires c κs = search needs
+
 first-requires : tie.Need-first-requires
 first-requires c κs =
-    let s = c .before .before .before .before .before .before in
+    let w = c .before .before in
+    let s = w .before .before .before .before .before .before in
     let a = s .args in
-    let members = c .before .before .before .before .write-members .ensures in
-    let many = c .before .before .count .ensures ∙ ap size (c .before .before .before .credentials .ensures) in (
+    let members = w .before .before .before .before .write-members .ensures in
+    let many = w .before .before .count .ensures ∙ ap size (w .before .before .before .credentials .ensures) in (
       record {
         placed = s .pre .placed;
         atom = s .pre .atom;
@@ -38,22 +42,25 @@ first-requires c κs =
 
 asked-requires : tie.Need-asked-requires
 asked-requires c κs =
-    let s = c .before .before .before .before .before .before .before .before in
+    let w = c .before .before .before .before in
+    let s = w .before .before .before .before .before .before in
     let a = s .args in
-    let members = c .before .before .before .before .before .before .write-members .ensures in
-    let many = c .before .before .before .before .count .ensures ∙ ap size (c .before .before .before .before .before .credentials .ensures) in
+    let members = w .before .before .before .before .write-members .ensures in
+    let many = w .before .before .count .ensures ∙ ap size (w .before .before .before .credentials .ensures) in
     counted levelCount (a .heads .now) (a .positive .now) (a .negated .now) (a .starts .now) (a .request) (a .shown) (a .within)
     (s .fits .within .fits) (s .pre .apart) _ members _ many .0
 
 returns : tie.Need-returns
-returns c pol =
-    let s = c .before .before .before .before .before .before .before .before .before in
+returns c =
+    let w = c .before .before .before .before .before in
+    let s = w .before .before .before .before .before .before in
     let a = s .args in
-    let members = c .before .before .before .before .before .before .before .write-members .ensures in
-    let many = c .before .before .before .before .before .count .ensures ∙ ap size (c .before .before .before .before .before .before .credentials .ensures) in
+    let members = w .before .before .before .before .write-members .ensures in
+    let many = w .before .before .count .ensures ∙ ap size (w .before .before .before .credentials .ensures) in
     c .asked .ensures
     ∙ answered levelCount (a .heads .now) (a .positive .now) (a .negated .now) (a .starts .now) (a .request) (a .shown) (a .within)
-    (s .fits .within .fits) (s .pre .apart) _ members _ many (c .before .before .first .result) (c .before .before .first .ensures) pol
+    (s .fits .within .fits) (s .pre .apart) _ members _ many (a .weights .now) _ (w .write-weights .ensures)
+    (c .before .before .first .result) (c .before .before .first .ensures)
 
 pub preferred-spec : {M : Type 1} → statement M
 preferred-spec =
@@ -63,6 +70,7 @@ preferred-spec =
     credentials-requires
     count-requires
     cast-count
+    write-weights-requires
     first-requires
     asked-requires
     returns)

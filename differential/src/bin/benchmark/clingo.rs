@@ -1,7 +1,8 @@
 //! The same questions put to clingo, a solver for such programs, where it is installed.
 
-use crate::inputs::{Input, Inputs};
+use crate::inputs::{weights, Input, Inputs};
 use crate::program::{model, question};
+use crate::searches::search;
 use crate::solver::{ground, runs, version, Runs, CLASP, CLINGO};
 use crate::tables::time;
 use crate::timing::typical;
@@ -43,7 +44,7 @@ fn question_row(what: &str, input: &Input) -> Option<Row> {
     };
     Some(Row {
         name: format!("{what}, {}, request {}", input.name, input.request),
-        program: question(&policy, input.request, &[1; 16])?,
+        program: question(&policy, input.request, None)?,
         wanted,
         atoms: 0xffff,
         gate: Box::new(move || gate::round(&policy, &mut fresh.clone(), 0).into()),
@@ -52,13 +53,12 @@ fn question_row(what: &str, input: &Input) -> Option<Row> {
 
 /// The preferred set by sixteen weights, without a limit.
 fn weighted_row(input: &Input) -> Option<Row> {
-    use crate::searches::{search, weights};
     let policy = input.policy.clone();
     let search = search(input, 65_535);
     let reply = gate::search(&policy, &search);
     Some(Row {
         name: format!("sixteen weights, {}, request {}", input.name, input.request),
-        program: question(&policy, input.request, &weights())?,
+        program: question(&policy, input.request, Some(weights()))?,
         wanted: (reply & 0xff == 0).then_some(reply >> 32),
         atoms: 0xffff,
         gate: Box::new(move || gate::search(&policy, &search)),
@@ -66,12 +66,15 @@ fn weighted_row(input: &Input) -> Option<Row> {
 }
 
 fn rows(inputs: &Inputs) -> Vec<Row> {
-    let small = [&inputs.a, &inputs.middle];
-    let models = small.into_iter().chain(&inputs.full);
+    let models = inputs.short.iter().chain(&inputs.full);
     let mut rows: Vec<Row> = models.filter_map(model_row).collect();
-    let first = small.into_iter().chain(&inputs.asking);
+    let first = inputs.short.iter().chain(&inputs.asking);
     rows.extend(first.filter_map(|input| question_row("first round", input)));
     let worst = inputs.full.iter();
+    rows.extend(worst.filter_map(|input| question_row("worst round", input)));
+    let first = inputs.short_weighed.iter().chain(&inputs.asking_weighed);
+    rows.extend(first.filter_map(|input| question_row("first round", input)));
+    let worst = inputs.fewer_weighed.iter();
     rows.extend(worst.filter_map(|input| question_row("worst round", input)));
     rows.extend(inputs.full.iter().filter_map(weighted_row));
     rows.extend(inputs.asking.iter().filter_map(weighted_row));

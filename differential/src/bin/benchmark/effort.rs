@@ -5,6 +5,7 @@ use crate::timing::Times;
 use differential::gate;
 use differential::plain::disclosure::disclosable;
 use differential::plain::policy::{check, level, Record};
+use differential::plain::weights::weights;
 use differential::stack;
 use differential::weighted::{tuned, Answer, Search};
 
@@ -38,21 +39,26 @@ fn body_tests(policy: &[u8]) -> u64 {
     tests
 }
 
+/// The worst rounds that were timed, each with its input.
+fn worst<'a>(inputs: &'a Inputs, times: &'a [Times]) -> Vec<(&'a Input, &'a Times)> {
+    let timed = |input: &Input| {
+        let name = format!("worst round, {}, request", input.name);
+        times.iter().find(|item| item.name.starts_with(&name))
+    };
+    let all = inputs.full.iter();
+    all.filter_map(|input| Some((input, timed(input)?)))
+        .collect()
+}
+
 pub fn print_tests(inputs: &Inputs, times: &[Times]) {
-    if !times
-        .iter()
-        .any(|item| item.name.starts_with("worst round"))
-    {
+    let worst = worst(inputs, times);
+    if worst.is_empty() {
         return;
     }
     println!("\nBody tests in a worst round, one candidate at a time, and each version's time for one (median):\n");
     println!("| | body tests, million | gate, ns | plain, ns | tuned, ns |");
     println!("|---|---:|---:|---:|---:|");
-    for input in &inputs.full {
-        let worst = format!("worst round, {}", input.name);
-        let Some(item) = times.iter().find(|item| item.name.starts_with(&worst)) else {
-            continue;
-        };
+    for (input, item) in worst {
         let tests = body_tests(&input.policy) as f64;
         let [gate, plain, tuned] = item.median.map(|seconds| seconds / tests * 1e9);
         let name = &input.name;
@@ -70,7 +76,7 @@ fn trials(input: &Input) -> Option<u32> {
         request: input.request,
         shown: 0,
         within: disclosable(&policy.disclosure, 0),
-        weights: [1; 16],
+        weights: weights(&policy.weights),
         limit: u32::MAX,
     };
     match tuned::answer(&input.policy, &search) {

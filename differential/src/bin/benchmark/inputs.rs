@@ -1,7 +1,8 @@
 //! The policies that are timed, each with the request of its rounds.
 
 use differential::marked::policy_a;
-use differential::policies::{access, disclosure, encode};
+use differential::plain::policy::Record;
+use differential::policies::{access, disclosure, encode, weight};
 use std::path::Path;
 
 /// A policy, and a service to ask for under it.
@@ -49,14 +50,42 @@ fn less_63(policy: &[u8]) -> Vec<u8> {
     records.flatten().copied().collect()
 }
 
+/// Sixteen different weights, 0 to 15, mixed.
+pub fn weights() -> [u8; 16] {
+    std::array::from_fn(|k| ((7 * k + 3) % 16) as u8)
+}
+
+/// The same policy with these weights.
+fn weighed(of: &Input, name: &str, weights: &[Record]) -> Input {
+    let policy = [of.policy.clone(), encode(weights)].concat();
+    input(&format!("{}, {name}", of.name), policy, of.request)
+}
+
+/// The policy without the last sixteen of its rules for 16 to 61, so that there is room for sixteen weights.
+fn fewer(of: &Input) -> Input {
+    let mut records: Vec<&[u8]> = of.policy.chunks(18).collect();
+    for _ in 0..16 {
+        let last = records.iter().rposition(|r| (16..62).contains(&r[1]));
+        last.map(|place| records.remove(place));
+    }
+    let name = format!("{} less 16 rules", of.name);
+    input(&name, records.concat(), of.request)
+}
+
 /// All policies that are timed.
 pub struct Inputs {
-    pub a: Input,
-    pub middle: Input,
+    /// Policy A, and one of 44 records; and the same with weights.
+    pub short: Vec<Input>,
+    pub short_weighed: Vec<Input>,
     /// 128 records each; nothing unlocks 62, and all candidates are tried.
     pub full: Vec<Input>,
-    /// The same without the rules for 63, and a service for which there is a question.
+    /// The same with 112 records; and these with sixteen weights.
+    pub fewer: Vec<Input>,
+    pub fewer_weighed: Vec<Input>,
+    /// The full ones without the rules for 63, and a service for which there is a question.
     pub asking: Vec<Input>,
+    /// These with fewer rules and sixteen weights.
+    pub asking_weighed: Vec<Input>,
 }
 
 impl Inputs {
@@ -69,9 +98,23 @@ impl Inputs {
             asking.push(input(&less, less_63(&policy), service));
             full.push(input(name, policy, 62));
         }
+        let short = vec![
+            input("policy A", policy_a(), 16),
+            input("44 records", middle(), 48),
+        ];
+        let each = (0..).zip(weights()).map(|(k, w)| weight(k, w.into()));
+        let all: Vec<Record> = each.collect();
+        let sixteen = |input: &Input| weighed(input, "sixteen weights", &all);
+        let shorter: Vec<Input> = full.iter().map(fewer).collect();
         Ok(Inputs {
-            a: input("policy A", policy_a(), 16),
-            middle: input("44 records", middle(), 48),
+            short_weighed: vec![
+                weighed(&short[0], "one weight", &[weight(2, 3)]),
+                weighed(&short[1], "eight weights", &all[..8]),
+            ],
+            short,
+            fewer_weighed: shorter.iter().map(sixteen).collect(),
+            fewer: shorter,
+            asking_weighed: asking.iter().map(|i| sixteen(&fewer(i))).collect(),
             full,
             asking,
         })
@@ -79,9 +122,10 @@ impl Inputs {
 
     /// Every one of them.
     pub fn all(&self) -> impl Iterator<Item = &Input> {
-        [&self.a, &self.middle]
-            .into_iter()
-            .chain(&self.full)
-            .chain(&self.asking)
+        let without = self.short.iter().chain(&self.full).chain(&self.asking);
+        without
+            .chain(&self.short_weighed)
+            .chain(&self.fewer_weighed)
+            .chain(&self.asking_weighed)
     }
 }

@@ -3,7 +3,7 @@
 use crate::inputs::{Input, Inputs};
 use differential::gate;
 use differential::plain::disclosure::disclosable;
-use differential::plain::interface::{decode, encode, ending_reply};
+use differential::plain::interface::{encode, ending_reply};
 use differential::plain::model::model;
 use differential::plain::policy::{check, Policy};
 use differential::plain::session::{open, round};
@@ -71,12 +71,21 @@ fn number(reply: u32, session: [u8; 10]) -> u64 {
     u64::from(reply) << 32 ^ tail
 }
 
-/// The first round of a session that shows nothing.
+/// The gate's first round of a session that shows nothing.
+pub fn gate_round(input: &Input) -> Option<Box<dyn Fn() -> u64>> {
+    let policy = input.policy.clone();
+    let bytes = encode(&open(input.request).ok()?);
+    Some(Box::new(move || {
+        let mut session = black_box(bytes);
+        let reply = gate::round(black_box(&policy), &mut session, black_box(0));
+        number(reply, session)
+    }))
+}
+
+/// The same of all three.
 fn round_item(what: &str, input: &Input) -> Option<Item> {
-    let [a, b, c] = copies(input);
-    let fresh = open(input.request).ok()?;
-    let bytes = encode(&fresh);
-    let session = decode(bytes)?;
+    let [_, b, c] = copies(input);
+    let session = open(input.request).ok()?;
     let answer = |done: Result<(_, _), _>| match done {
         Ok((ending, next)) => number(ending_reply(ending), encode(&next)),
         Err(_) => 0,
@@ -84,11 +93,7 @@ fn round_item(what: &str, input: &Input) -> Option<Item> {
     Some(Item {
         name: format!("{what}, {}, request {}", input.name, input.request),
         versions: [
-            Box::new(move || {
-                let mut session = black_box(bytes);
-                let reply = gate::round(black_box(&a), &mut session, black_box(0));
-                number(reply, session)
-            }),
+            gate_round(input)?,
             Box::new(move || answer(round(black_box(&b), &black_box(session), black_box(0)))),
             Box::new(move || {
                 answer(tuned::round(
@@ -102,7 +107,7 @@ fn round_item(what: &str, input: &Input) -> Option<Item> {
 }
 
 pub fn items(inputs: &Inputs) -> Vec<Item> {
-    let (a, middle, full) = (&inputs.a, &inputs.middle, &inputs.full);
+    let (a, middle, full) = (&inputs.short[0], &inputs.short[1], &inputs.full);
     let mut items: Vec<Item> = [a, middle, &full[0]].map(check_item).into();
     items.push(model_item(a, 0b11));
     items.push(model_item(middle, 0xff));
@@ -111,6 +116,10 @@ pub fn items(inputs: &Inputs) -> Vec<Item> {
     let first = [a, middle].into_iter().chain(&inputs.asking);
     items.extend(first.filter_map(|input| round_item("first round", input)));
     let worst = full.iter();
+    items.extend(worst.filter_map(|input| round_item("worst round", input)));
+    let first = inputs.short_weighed.iter().chain(&inputs.asking_weighed);
+    items.extend(first.filter_map(|input| round_item("first round", input)));
+    let worst = inputs.fewer.iter().chain(&inputs.fewer_weighed);
     items.extend(worst.filter_map(|input| round_item("worst round", input)));
     items
 }

@@ -9,6 +9,7 @@ mod searches;
 mod solver;
 mod tables;
 mod timing;
+mod weights;
 
 use inputs::Inputs;
 use std::path::PathBuf;
@@ -71,6 +72,7 @@ fn run() -> Result<(), String> {
     let last = &runs[runs.len() - 1];
     tables::medians(last);
     tables::ranges(&runs);
+    weights::print(&inputs, &options.word);
     clingo::print(&inputs, &options.word)?;
     effort::print_tests(&inputs, last);
     effort::print_stack(&inputs);

@@ -2,6 +2,7 @@
 
 use differential::plain::disclosure::disclosable;
 use differential::plain::policy::{atoms, check, Policy};
+use differential::plain::weights::weights;
 use std::fmt::Write;
 
 /// The access rules, an atom k as `ak`.
@@ -25,9 +26,10 @@ pub fn model(bytes: &[u8]) -> Option<String> {
 }
 
 /// A part of the disclosable set by which the service comes and 63 does not: least in weight and count first, both in one number
-/// for each credential, then least as a number.
-pub fn question(bytes: &[u8], request: u16, weights: &[u8; 16]) -> Option<String> {
+/// for each credential, then least as a number. The weights are the policy's, or those given.
+pub fn question(bytes: &[u8], request: u16, given: Option<[u8; 16]>) -> Option<String> {
     let policy = check(bytes).ok()?;
+    let weights = given.unwrap_or_else(|| weights(&policy.weights));
     let may_ask = disclosable(&policy.disclosure, 0);
     let each = |part: &dyn Fn(u8) -> String| {
         let parts: Vec<String> = atoms(may_ask.into()).map(part).collect();

@@ -1,6 +1,6 @@
 //! Searches by weights against a limit, timed.
 
-use crate::inputs::{Input, Inputs};
+use crate::inputs::{weights, Input, Inputs};
 use crate::items::Item;
 use differential::gate;
 use differential::weighted::{number, plain, tuned, Search};
@@ -8,11 +8,6 @@ use std::hint::black_box;
 
 /// No search has more candidates.
 const ALL: u32 = 65_535;
-
-/// Sixteen different weights, 0 to 15, mixed.
-pub fn weights() -> [u8; 16] {
-    std::array::from_fn(|k| ((7 * k + 3) % 16) as u8)
-}
 
 /// All sixteen credentials searched, nothing shown.
 pub fn search(input: &Input, limit: u32) -> Search {

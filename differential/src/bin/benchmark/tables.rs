@@ -14,7 +14,7 @@ pub fn time(seconds: f64) -> String {
 }
 
 /// A ratio with two digits after the point, or three where it is small.
-fn ratio(number: f64) -> String {
+pub fn ratio(number: f64) -> String {
     let digits = if number < 0.095 { 3 } else { 2 };
     format!("{number:.digits$}")
 }

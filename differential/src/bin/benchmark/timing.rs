@@ -83,3 +83,22 @@ pub fn measure(item: &Item) -> Result<Times, String> {
         ratios: [ratio(1), ratio(2)],
     })
 }
+
+/// Medians of two versions, and the median of the second's time as a multiple of the first's.
+pub struct Turns {
+    pub first: f64,
+    pub second: f64,
+    pub ratio: f64,
+}
+
+/// Two versions in turn, again and again.
+pub fn in_turn(first: &dyn Fn() -> u64, second: &dyn Fn() -> u64) -> Turns {
+    let calls = calibrate(first);
+    let row = |_| [sample(first, calls), sample(second, calls)];
+    let rows: Vec<[f64; 2]> = (0..SHORT_SAMPLES).map(row).collect();
+    Turns {
+        first: median(rows.iter().map(|row| row[0])),
+        second: median(rows.iter().map(|row| row[1])),
+        ratio: median(rows.iter().map(|row| row[1] / row[0])),
+    }
+}

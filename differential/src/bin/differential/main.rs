@@ -1,4 +1,4 @@
-//! The differential tests: the gate against document 01 in plain Rust.
+//! The differential tests: the gate against documents 01 and 02 in plain Rust.
 
 mod slips;
 
@@ -118,7 +118,7 @@ fn run_threads(shared: &Shared, options: &Options) -> Result<Counts, String> {
     })
 }
 
-/// Document 01's own examples, of the version under test and of the plain one.
+/// Document 01's own examples and those of weights, of the version under test and of the others.
 fn test_marked(options: &Options) -> Result<(), String> {
     let mut tested = tested(options);
     let mut versions: [(&str, &mut dyn Version); 4] = [
@@ -130,7 +130,7 @@ fn test_marked(options: &Options) -> Result<(), String> {
     for (name, version) in &mut versions {
         for (case, right) in marked(*version) {
             if !right {
-                return Err(format!("document 01's {case}: the {name} version fails"));
+                return Err(format!("example {case}: the {name} version fails"));
             }
         }
     }

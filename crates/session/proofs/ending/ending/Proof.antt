@@ -36,22 +36,25 @@ returns c =
 obtainable-requires : tie.Need-obtainable-requires
 obtainable-requires c κs = search needs
 
+weight-table-requires : tie.Need-weight-table-requires
+weight-table-requires c κs = search needs
+
 preferred-requires : tie.Need-preferred-requires
 preferred-requires c κs =
-    let known = c .before .before .before .before .before .before .before .before .before .before .before .before .before .before .before .before in
+    let known = c .before .before .before .before .before .before .before .before .before .before .before .before .before .before .before .before .before .before in
     let a = known .before .args in
     let bytes = now (a .policy) in
-    let rules = c .before .before .before .before .before .before .before .before .before .before .before .before .access-rules in
-    let u = c .before .before .before .before .before .before .unlocks in
-    let within = c .before .before .before .before .obtainable in
+    let rules = c .before .before .before .before .before .before .before .before .before .before .before .before .before .before .access-rules in
+    let u = c .before .before .before .before .before .before .before .before .unlocks in
+    let within = c .before .before .before .before .before .before .obtainable in
     record {
       placed = rules .ensures .placed;
       atom = omega (arith, known .before .pre .1);
       apart = obtainable-apart (policyOf bytes) (a .shown) (a .declined) (within .result) (within .ensures);
       alone =
           locked-alone bytes (slice-bytes bytes (known .shared-slice-known .given)) (known .before .pre .0) _ _ _ _ (rules .ensures) (a .request) (a .shown)
-          (a .declined) _ (c .before .before .before .before .before .before .before .before .before .before .before .credentials .ensures) (u .result)
-          (u .ensures) (c .before .before .before .before .before .if1 .left);
+          (a .declined) _ (c .before .before .before .before .before .before .before .before .before .before .before .before .before .credentials .ensures) (u .result)
+          (u .ensures) (c .before .before .before .before .before .before .before .if1 .left);
     }
 
 concluded-requires : tie.Need-concluded-requires
@@ -59,17 +62,18 @@ concluded-requires c κs = search needs
 
 returns-2 : tie.Need-returns-2
 returns-2 c =
-    let known = c .before .before .before .before .before .before .before .before .before .before .before .before .before .before .before .before .before .before in
+    let known = c .before .before .before .before .before .before .before .before .before .before .before .before .before .before .before .before .before .before .before .before in
     let a = known .before .args in
     let bytes = now (a .policy) in
-    let rules = c .before .before .before .before .before .before .before .before .before .before .before .before .before .before .access-rules in
-    let u = c .before .before .before .before .before .before .before .before .unlocks in
-    let within = c .before .before .before .before .before .before .obtainable in
+    let rules = c .before .before .before .before .before .before .before .before .before .before .before .before .before .before .before .before .access-rules in
+    let u = c .before .before .before .before .before .before .before .before .before .before .unlocks in
+    let within = c .before .before .before .before .before .before .before .before .obtainable in
+    let weights = c .before .before .before .before .before .before .before .weight-table in
     let found = c .before .preferred in
     c .concluded .ensures
     ∙ ends-found bytes (slice-bytes bytes (known .shared-slice-known .given)) (known .before .pre .0) _ _ _ _ (rules .ensures) (a .request) (a .shown) (a .declined) _
-    (c .before .before .before .before .before .before .before .before .before .before .before .before .before .credentials .ensures) (u .result) (u .ensures)
-    (c .before .before .before .before .before .before .before .if1 .left) (within .result) (within .ensures) (foundOf (found .result)) (found .ensures)
+    (c .before .before .before .before .before .before .before .before .before .before .before .before .before .before .before .credentials .ensures) (u .result) (u .ensures)
+    (c .before .before .before .before .before .before .before .before .before .if1 .left) (within .result) (within .ensures) (weights .result) (weights .ensures) (foundOf (found .result)) (found .ensures)
 
 pub ending-spec : {M : Type 1} → statement M
 ending-spec =
@@ -81,6 +85,7 @@ ending-spec =
     unlocks-requires
     returns
     obtainable-requires
+    weight-table-requires
     preferred-requires
     concluded-requires
     returns-2)

@@ -21,6 +21,12 @@ enum-known-self-4 c = c .match .keys5
 enum-known-self-5 : tie.Need-enum-known-self-5
 enum-known-self-5 c = c .match .keys6
 
+enum-known-self-6 : tie.Need-enum-known-self-6
+enum-known-self-6 c = c .match .keys7
+
+enum-known-self-7 : tie.Need-enum-known-self-7
+enum-known-self-7 c = c .match .keys8
+
 returns : tie.Need-returns
 returns c = rw (c .enum-told .given .1) refl
 
@@ -39,6 +45,12 @@ returns-5 c = cc
 returns-6 : tie.Need-returns-6
 returns-6 c = cc
 
+returns-7 : tie.Need-returns-7
+returns-7 c = cc
+
+returns-8 : tie.Need-returns-8
+returns-8 c = cc
+
 pub record-spec : {M : Type 1} → statement M
 record-spec =
     tie.close
@@ -49,9 +61,13 @@ record-spec =
     enum-known-self-3
     enum-known-self-4
     enum-known-self-5
+    enum-known-self-6
+    enum-known-self-7
     returns
     returns-2
     returns-3
     returns-4
     returns-5
-    returns-6)
+    returns-6
+    returns-7
+    returns-8)

@@ -1,0 +1,2 @@
+-- What the loop over the records comes to.
+pub mod TableLaws
