@@ -5,6 +5,8 @@ use Rattle.lists.proofs.TheoremsProof as run
 use Rattle.validation.proofs.TheoremsProof as validation
 use Rattle.atoms.proofs.MeaningProof.{meaning}
 use Rattle.rules.proofs.TheoremsProof as rules
+use Rattle.iteration.proofs.ExamplesProof.{examples}
+use Rattle.iteration.proofs.TheoremsProof as iteration
 use Rattle.records.proofs.TheoremsProof as records
 use Rattle.form.proofs.TheoremsProof as form
 use Rattle.policy.proofs.TheoremsProof as policy
@@ -16,6 +18,7 @@ use Rattle.preference.proofs.TheoremsProof as preference
 use Rattle.preference.proofs.OrderTheoremsProof as order
 use Rattle.preference.proofs.SwitchLaws as switching
 use Rattle.relevance.proofs.TheoremsProof as relevance
+use Rattle.lane_fixpoint.proofs.TheoremsProof as lane-fixpoint
 use Rattle.search.proofs.TheoremsProof as search
 use Rattle.question.proofs.TheoremsProof as question
 use Rattle.rounds.proofs.TheoremsProof as rounds
@@ -60,6 +63,8 @@ claims = record {
   tests = validation.theorems;
   sets = meaning;
   models = rules.theorems;
+  passes = iteration.theorems;
+  pass-counts = examples;
   encoding = records.theorems;
   policies = form.theorems;
   checks = policy.theorems;
@@ -71,6 +76,7 @@ claims = record {
   orders = order.theorems;
   switches = switching.theorems;
   relevances = relevance.theorems;
+  lanes = lane-fixpoint.theorems;
   searches = search.theorems;
   questions = question.theorems;
   sessions = rounds.theorems;

@@ -1,11 +1,12 @@
 -- The theorems of the gate that a customer reads, on one page; proofs/ClaimsProof has them all (the search for C, crate `probe`, has its own). What
 -- they leave to belief is that the words in which they are stated say what the papers say. These are, crate by crate:
 -- encoding: Bytes, bytesOf, littleEndian
--- lists: Every, OneOf, Each, passed, Turn, run, last, reached
+-- lists: Every, OneOf, Each, passed, Turn, run, last, reached, sum
 -- validation: AllHold, FirstBroken, BrokenThere, DecideAll, relabelled, Unless, GivenExactly
 -- atoms: Member, bit, Subset
 -- rules: Rule, Policy, Headed, Levelled, Stratified, BodyHolds, ClosedBeside, Closed, Least, Stable, OneStable, Unlocks, Equivalent, byLevel,
---   ofLevel, weightAmong, weightIn, WeightTable
+--   ofLevel, weightAmong, weightIn, WeightTable, times
+-- iteration: headsOf, atomsAdded, afterPasses, Idle, LeastIdle, ClosedIn, RulesClosedIn, ReachedIn, Counts, and what Examples names
 -- records: Record, readRecord, recordAt, recordsBefore, recordsOf, rulesOf, policyOf, unweighted, level, levelCount, Sized, writeRecords, withRecord,
 --   _if_not_, disclose_if_, credential_weighing_
 -- form: Refusal, PolicyNumber; the statements that PolicyForm lists, WellFormed, PolicyRefused; and Tested, Numbers, Written, RecordAllowed,
@@ -14,8 +15,10 @@
 -- disclosure: Disclosable, Askable, Discloses, GivesDisclosable
 -- model: GivesModel
 -- preference: Question, Lighter, Preferred, PreferredOf, keysBy, candidates, preferredIn; Before, First, Searched, Result, place, costOf, weightOf,
---   weightsOf, WeightsListed, total, sum, LightestOf, subsetOf, questionAt, questionFor; Members, Different, taken, switched
+--   weightsOf, WeightsListed, total, LightestOf, subsetOf, questionAt, questionFor; Members, Different, taken, switched
 -- relevance: Follows, Bearing, Relevant, SameOn, kept, keptLevels, KeptIn, SameAnswer
+-- lane_table: lane, EachLane
+-- lane_fixpoint: LanesClosedIn, EachClosedIn
 -- rounds: Session, Move, showing, Ending, Refusal, Answer, Outcome; Service, SoundSession, SixteenBit, Finished, with their parts; opened, roundsOf;
 --   the statements that RoundForm lists, and RoundNumbers, which says the same without the list
 -- demands: Round, acceptedOf, SomeRound, SomeNext, Asks, Final, Over, ByRound; Demand1; Missing, FirstMissing, DeniedWhen, Demand2; Responds,
@@ -53,6 +56,8 @@ use Rattle.validation.specs.Unless.{given}
 use Rattle.validation.specs.Theorems as validation
 use Rattle.atoms.specs.Meaning.{Meaning}
 use Rattle.rules.specs.Theorems as rules
+use Rattle.iteration.specs.Examples.{Examples}
+use Rattle.iteration.specs.Theorems as iteration
 use Rattle.records.specs.Theorems as records
 use Rattle.form.specs.Theorems as form
 use Rattle.policy.specs.Theorems as policy
@@ -64,6 +69,7 @@ use Rattle.preference.specs.Theorems as preference
 use Rattle.preference.specs.OrderTheorems.{OrderTheorems}
 use Rattle.preference.specs.Switching.{SwitchTheorems}
 use Rattle.relevance.specs.Theorems as relevance
+use Rattle.lane_fixpoint.specs.Theorems as lane-fixpoint
 use Rattle.search.specs.Theorems as search
 use Rattle.question.specs.Theorems as question
 use Rattle.rounds.specs.Moves.{Move}
@@ -104,6 +110,9 @@ pub record Claims : Type 1 where
   pub sets : Meaning
   -- the closure is the least closed set, and the model the one stable set, also level by level; what it is to unlock
   pub models : rules.Theorems
+  -- passes until one adds nothing: there is a first that is idle, for every list of rules and every set, and how soon it comes; counts of chosen cases
+  pub passes : iteration.Theorems
+  pub pass-counts : Examples
   -- what a record's writer writes is what its reader reads
   pub encoding : records.Theorems
   -- demand 1, of the policy's test; an accepted policy has one stable set over every set of credentials; and what credentials weigh under it
@@ -125,6 +134,8 @@ pub record Claims : Type 1 where
   pub switches : SwitchTheorems
   -- rules that bear on no answer may be left out
   pub relevances : relevance.Theorems
+  -- 256 sets closed at once: what the count of passes says, lane by lane
+  pub lanes : lane-fixpoint.Theorems
   -- what the answers of the search and of the question mean is one-to-one
   pub searches : search.Theorems
   pub questions : question.Theorems

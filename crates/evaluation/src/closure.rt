@@ -1,10 +1,7 @@
-// Rules closed over: passes over the rules at some places, the last of which adds nothing.
+// Rules closed over, without the count of passes (document 02, R-3: "callers see no count").
 ghost use mathlib.Core.Path.{_≡_};
-ghost use mathlib.Core.Bool.{_&&_, cond};
-ghost use Prim.Native.Nat.{_-_, _<_};
-ghost use lib.ListN.{getD};
-ghost use Rattle.atoms.specs.Sets.{disjoint, subset, union};
-ghost use Rattle.rules.specs.LevelByLevel.{passOver, settle};
+ghost use Prim.Native.Nat.{_-_};
+ghost use Rattle.rules.specs.LevelByLevel.{settle};
 ghost use Rattle.arrays.specs.Arrays.{Span, rulesIn};
 use atoms::AtomSet;
 
@@ -20,74 +17,6 @@ pub fn close<'a>(
     requires { ⌜ Span from to (now heads) ⌝ }
     ensures { λ r. ⌜ r .bits ≡ settle (rulesIn (now (heads .entry)) (now (positive .entry)) (now (negated .entry)) from (to - from)) (set .bits) ⌝ }
 {
-    let mut reached = set;
-    loop {
-        let next = pass(heads, positive, negated, from, to, set, reached);
-        if next.bits == reached.bits {
-            return reached;
-        }
-        reached = next;
-    }
-}
-
-// One pass over the rules at places `from` to `to`. "Not" is read of `below`.
-fn pass<'a>(
-    heads: &'a [u64; 128],
-    positive: &'a [u64; 128],
-    negated: &'a [u64; 128],
-    from: usize,
-    to: usize,
-    below: AtomSet,
-    set: AtomSet,
-) -> AtomSet
-    requires { ⌜ Span from to (now heads) ⌝ }
-    ensures { λ r.
-        ⌜ r .bits ≡ passOver (below .bits) (rulesIn (now (heads .entry)) (now (positive .entry)) (now (negated .entry)) from (to - from)) (set .bits) ⌝ }
-{
-    let mut reached = set;
-    let mut k = from;
-    while k < to {
-        let all = positive[k];
-        let none = negated[k];
-        reached = fire(
-            heads,
-            k,
-            AtomSet { bits: all },
-            AtomSet { bits: none },
-            below,
-            reached,
-        );
-        k += 1;
-    }
-    reached
-}
-
-// The rule at place k: its head is read and added where its body holds.
-fn fire(
-    heads: &[u64; 128],
-    k: usize,
-    positive: AtomSet,
-    negated: AtomSet,
-    below: AtomSet,
-    set: AtomSet,
-) -> AtomSet
-    requires { ⌜ k < 128 ⌝ }
-    ensures { λ r.
-        ⌜ r .bits ≡ cond (disjoint (negated .bits) (below .bits) && subset (positive .bits) (set .bits))
-        (union (set .bits) (getD (now (heads .entry)) k 0)) (set .bits) ⌝ }
-{
-    if body_holds(positive, negated, below, set) {
-        let head = heads[k];
-        set.union(AtomSet { bits: head })
-    } else {
-        set
-    }
-}
-
-// All of the positive part in the set, and none of the negated part in `below`: one test of what is amiss.
-fn body_holds(positive: AtomSet, negated: AtomSet, below: AtomSet, set: AtomSet) -> bool
-    ensures { λ r. ⌜ r ≡ (disjoint (negated .bits) (below .bits) && subset (positive .bits) (set .bits)) ⌝ }
-{
-    let amiss = negated.intersection(below).union(positive.difference(set));
-    amiss.bits == 0
+    let fixpoint = fixpoint::close(heads, positive, negated, from, to, set);
+    fixpoint.set
 }

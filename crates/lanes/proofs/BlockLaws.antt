@@ -9,14 +9,14 @@ use Rattle.atoms.specs.Sets.{member}
 use Rattle.rules.specs.Unlocking.{grants}
 use Rattle.arrays.specs.Arrays.{evaluated}
 use Rattle.preference.specs.Candidates.{switched}
+use Rattle.lane_table.specs.LaneSets.{Both, Complement, word}
+use Rattle.lane_table.specs.Tables.{Loaded, lane}
+use Rattle.lane_table.specs.declared.lane_set.LaneSet.{LaneSet}
+use Rattle.lane_table.proofs.BitLaws.{member-and, member-others}
+use Rattle.lane_table.proofs.LaneLaws.{lane-member}
 use Rattle.lanes.specs.Blocks.{Unlocking}
 use Rattle.lanes.specs.Candidates.{Switched, Uniform, number}
-use Rattle.lanes.specs.LaneSets.{Both, Complement, word}
 use Rattle.lanes.specs.Levels.{Evaluated}
-use Rattle.lanes.specs.Tables.{Loaded, lane}
-use Rattle.lanes.specs.declared.lane_set.LaneSet.{LaneSet}
-use Rattle.lanes.proofs.BitLaws.{member-and, member-others}
-use Rattle.lanes.proofs.LaneLaws.{lane-member}
 
 -- the request is in the set and 63 is not
 granted : (table : List ℕ) (request : ℕ) (wanted breached rest r : LaneSet) → request ≤ 63 → Loaded table request wanted → Loaded table 63 breached

@@ -7,10 +7,11 @@ use native.Mathlib.Omega.{arith}
 use Rattle.rules.specs.LevelByLevel.{levelByLevel}
 use Rattle.arrays.specs.Arrays.{evaluated, levelsIn}
 use Rattle.arrays.proofs.ArrayLaws.{levels-done-at, levels-next-at}
-use Rattle.lanes.specs.LaneSets.{EachLane}
-use Rattle.lanes.specs.Levels.{Evaluated, LevelClosed}
-use Rattle.lanes.specs.Passes.{Covers}
-use Rattle.lanes.specs.Tables.{lane}
+use Rattle.lane_table.specs.LaneSets.{EachLane}
+use Rattle.lane_fixpoint.specs.Closure.{LevelClosed}
+use Rattle.lane_fixpoint.specs.Passes.{Covers}
+use Rattle.lane_table.specs.Tables.{lane}
+use Rattle.lanes.specs.Levels.{Evaluated}
 
 -- ---- all levels: those from l on are left
 module _ (levels : ℕ) (heads positive negated starts : List ℕ) where

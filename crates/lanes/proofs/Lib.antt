@@ -1,17 +1,4 @@
--- The laws of sets of lanes, of tables, of rules for all lanes at once, and of blocks.
-pub mod BitLaws
-pub mod LowestLaws
-pub mod LaneSetLaws
-pub mod TableLaws
-pub mod LaneLaws
-pub mod BodyLaws
-pub mod FireLaws
-pub mod StepLaws
-pub mod SatisfiedLaws
-pub mod ReduceLaws
-pub mod PassLaws
-pub mod MissingLaws
-pub mod CloseLaws
+-- The laws of levels for all lanes at once, of the candidates of a block, and of what a block gives.
 pub mod EvaluateLaws
 pub mod MemberLaws
 pub mod FillLaws

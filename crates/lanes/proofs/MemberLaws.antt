@@ -11,10 +11,10 @@ use native.Mathlib.Omega.{arith}
 use Rattle.validation.proofs.TestLaws.{and-true, eqb-true}
 use Rattle.atoms.specs.Sets.{bit}
 use Rattle.atoms.proofs.SetLaws.{bit-empty, bit-lt}
+use Rattle.lane_table.specs.LaneSets.{EachLane, Splat, word}
+use Rattle.lane_table.specs.declared.lane_set.LaneSet.{LaneSet}
+use Rattle.lane_table.proofs.BitLaws.{full-bit}
 use Rattle.lanes.specs.Candidates.{Pattern, Takers, number}
-use Rattle.lanes.specs.LaneSets.{EachLane, Splat, word}
-use Rattle.lanes.specs.declared.lane_set.LaneSet.{LaneSet}
-use Rattle.lanes.proofs.BitLaws.{full-bit}
 
 -- ---- the six patterns, by a test of each bit
 

@@ -15,14 +15,14 @@ use Rattle.atoms.proofs.SetLaws.{bit-empty, bit-one, intersection-iff, union-le
 use Rattle.arrays.specs.Arrays.{OneAtom}
 use Rattle.preference.specs.Candidates.{switched}
 use Rattle.preference.proofs.XorLaws.{bit-xor-in, bit-xor-out}
+use Rattle.lane_table.specs.LaneSets.{JustOne, word}
+use Rattle.lane_fixpoint.specs.Passes.{Covers}
+use Rattle.lane_table.specs.Tables.{Loaded, Stored, lane}
+use Rattle.lane_table.specs.declared.lane_set.LaneSet.{LaneSet}
+use Rattle.lane_table.proofs.BitLaws.{InOrOut, bit-other, bit-others, tested}
+use Rattle.lane_table.proofs.LaneLaws.{lane-bit, lane-low, stored-lane}
+use Rattle.lane_fixpoint.proofs.LowestLaws.{one-fits, one-small, one-trailing}
 use Rattle.lanes.specs.Candidates.{Noted, Switched, Takers, number}
-use Rattle.lanes.specs.LaneSets.{JustOne, word}
-use Rattle.lanes.specs.Passes.{Covers}
-use Rattle.lanes.specs.Tables.{Loaded, Stored, lane}
-use Rattle.lanes.specs.declared.lane_set.LaneSet.{LaneSet}
-use Rattle.lanes.proofs.BitLaws.{InOrOut, bit-other, bit-others, tested}
-use Rattle.lanes.proofs.LaneLaws.{lane-bit, lane-low, stored-lane}
-use Rattle.lanes.proofs.LowestLaws.{one-fits, one-small, one-trailing}
 
 -- the members before j are switched; no lane has an atom outside `possible`
 pub record Switching (members : List ℕ) (count b : ℕ) (before table : List ℕ) (possible j : ℕ) : Type 0 where

@@ -7,9 +7,9 @@ use lib.Bits.{bitAnd, bitOr}
 use lib.ListN.{getD, length}
 use Rattle.atoms.specs.Sets.{bit}
 use Rattle.preference.specs.Candidates.{switched}
-use Rattle.lanes.specs.LaneSets.{EachLane, word}
-use Rattle.lanes.specs.Tables.{lane}
-use Rattle.lanes.specs.declared.lane_set.LaneSet.{LaneSet}
+use Rattle.lane_table.specs.LaneSets.{EachLane, word}
+use Rattle.lane_table.specs.Tables.{lane}
+use Rattle.lane_table.specs.declared.lane_set.LaneSet.{LaneSet}
 
 abbrev pub number : ℕ → ℕ → ℕ → ℕ
 number b t i = 256 * b + (64 * t + i)

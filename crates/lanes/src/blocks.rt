@@ -5,9 +5,9 @@ ghost use Rattle.lanes.specs.Blocks.{Unlocking};
 use crate::candidates::fill;
 use crate::candidates::switch;
 use crate::levels::evaluate;
-use crate::table::load;
 use arrays::Starts;
 use atoms::VIOLATION;
+use lane_table::rows::load;
 
 // Candidate 256 b + i is bit i % 64 of word i / 64.
 pub fn block<'a>(

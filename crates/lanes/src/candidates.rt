@@ -2,12 +2,12 @@
 ghost use mathlib.Core.Path.{_≡_};
 ghost use lib.ListN.{length};
 ghost use Rattle.preference.specs.Candidates.{Members};
+ghost use Rattle.lane_fixpoint.specs.Passes.{Covers};
 ghost use Rattle.lanes.specs.Candidates.{Blank, Noted, Switched, Uniform};
-ghost use Rattle.lanes.specs.Passes.{Covers};
-use crate::lane_set::LaneSet;
 use crate::members::takers;
-use crate::table::load;
-use crate::table::store;
+use lane_table::lane_set::LaneSet;
+use lane_table::rows::load;
+use lane_table::rows::store;
 
 // The base in every lane of a table that is all 0.
 pub fn fill(table: &mut [u64; 768], base: u16)

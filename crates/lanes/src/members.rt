@@ -1,7 +1,7 @@
 // Which lanes of a block take a member.
 ghost use Prim.Native.Nat.{_<_};
 ghost use Rattle.lanes.specs.Candidates.{Pattern, Takers};
-use crate::lane_set::LaneSet;
+use lane_table::lane_set::LaneSet;
 
 // The lanes of block b whose candidates take member j: bit j of their numbers is set.
 pub fn takers(j: usize, b: usize) -> LaneSet

@@ -1,5 +1,6 @@
--- Statements about lists, and runs of steps, in the order of reading.
+-- Statements about lists, runs of steps, and sums, in the order of reading.
 pub mod Lists
 pub mod Each
 pub mod Runs
+pub mod Sums
 pub mod Theorems

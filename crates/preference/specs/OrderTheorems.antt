@@ -6,10 +6,11 @@ use mathlib.Core.List.{List}
 use mathlib.Core.Option.{Option, none, some}
 use Prim.Native.Nat.{_*_, _<_, _^_, _≤_, suc, ℕ}
 use lib.ListN.{getD, length}
+use Rattle.lists.specs.Sums.{sum}
 use Rattle.atoms.specs.Sets.{Subset, bit, size}
 use Rattle.preference.specs.Preference.{preferred}
 use Rattle.preference.specs.Question.{Question, candidates, keysBy}
-use Rattle.preference.specs.Order.{Before, First, Result, Searched, before, costOf, firstOf, found, nothing, place, searched, spent, sum, weightOf}
+use Rattle.preference.specs.Order.{Before, First, Result, Searched, before, costOf, firstOf, found, nothing, place, searched, spent, weightOf}
 use Rattle.preference.specs.Subsets.{WeightsListed, subsetOf, weightsOf}
 use Rattle.preference.specs.Weights.{Lighter, total}
 

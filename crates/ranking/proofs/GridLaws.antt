@@ -5,8 +5,8 @@ use mathlib.Core.List.{List}
 use Prim.Native.Nat.{_%_, _*_, _+_, _-_, _/_, _<_, _≤_, ℕ}
 use lib.ListN.{getD}
 use native.Mathlib.Omega.{arith}
-use Rattle.preference.specs.Order.{sum}
-use Rattle.preference.proofs.SumLaws.{sum-blocks, sum-next, sum-same, sum-start}
+use Rattle.lists.specs.Sums.{sum}
+use Rattle.lists.proofs.SumLaws.{sum-blocks, sum-next, sum-same, sum-start}
 use Rattle.ranking.specs.Grid.{Grid, keyAt}
 use Rattle.ranking.specs.Keys.{widened}
 use Rattle.ranking.specs.Place.{below, keysBelow, keysIn, narrow}
@@ -34,7 +34,7 @@ module _ (key : ℕ → ℕ) (N : ℕ) (low : List ℕ) (lanes : ℕ) (high : Li
 
       go : ((blocks ≡ 1) × (N ≡ lanes)) ⊎ ((lanes ≡ 256) × (N ≡ 256 * blocks)) → sum f N ≡ sum (λ b. sum (λ i. f (256 * b + i)) lanes) blocks
       go (inl (e, d)) = ap (sum f) d ∙ sym one ∙ ap (sum (λ b. sum (λ i. f (256 * b + i)) lanes)) (sym e)
-      go (inr (e, d)) = ap (sum f) d ∙ sum-blocks f blocks ∙ ap (λ (k : ℕ). sum (λ b. sum (λ i. f (256 * b + i)) k) blocks) (sym e)
+      go (inr (e, d)) = ap (sum f) d ∙ sum-blocks f 256 blocks ∙ ap (λ (k : ℕ). sum (λ b. sum (λ i. f (256 * b + i)) k) blocks) (sym e)
 
   -- what is counted is the number of keys below
   pub counted : (T : ℕ) → keysIn low lanes high blocks T ≡ sum (λ m. below (key m) T) N

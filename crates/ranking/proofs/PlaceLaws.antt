@@ -9,9 +9,9 @@ use lib.Dec.{ltb, ltb→lt}
 use lib.ListN.{getD}
 use native.Mathlib.Decide.{decLt}
 use native.Mathlib.Omega.{arith}
+use Rattle.lists.proofs.SumLaws.{sum-next, sum-none, sum-start}
+use Rattle.lists.specs.Sums.{sum}
 use Rattle.validation.proofs.TestLaws.{true-T}
-use Rattle.preference.proofs.SumLaws.{sum-next, sum-none, sum-start}
-use Rattle.preference.specs.Order.{sum}
 use Rattle.ranking.specs.Keys.{never}
 use Rattle.ranking.specs.Place.{below, keysBelow, keysIn, narrow}
 

@@ -7,9 +7,10 @@ use borrow.Author.Tests.{le-ltb, lt-ltb}
 use lib.Dec.{ltb}
 use native.Mathlib.Decide.{decLt}
 use native.Mathlib.Omega.{arith}
-use Rattle.preference.specs.Order.{Before, found, nothing, place, searched, spent, sum}
+use Rattle.lists.specs.Sums.{sum}
+use Rattle.lists.proofs.SumLaws.{sum-le, sum-same}
+use Rattle.preference.specs.Order.{Before, found, nothing, place, searched, spent}
 use Rattle.preference.proofs.OrderLaws.{before-cases, mark, place-most, places, searched-means}
-use Rattle.preference.proofs.SumLaws.{sum-le, sum-same}
 use Rattle.ranking.specs.Grid.{Ranked, Settled}
 use Rattle.ranking.specs.Place.{below}
 use Rattle.ranking.proofs.PlaceLaws.{below-cases, below-no, below-yes}

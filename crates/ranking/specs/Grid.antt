@@ -5,7 +5,8 @@ use mathlib.Core.Bool.{Bool, true}
 use mathlib.Core.List.{List}
 use Prim.Native.Nat.{_%_, _*_, _+_, _<_, _≤_, ℕ}
 use lib.ListN.{getD}
-use Rattle.preference.specs.Order.{Before, sum}
+use Rattle.lists.specs.Sums.{sum}
+use Rattle.preference.specs.Order.{Before}
 use Rattle.ranking.specs.Keys.{never, widened}
 use Rattle.ranking.specs.Place.{below}
 

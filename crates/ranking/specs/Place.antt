@@ -6,7 +6,7 @@ use mathlib.Core.List.{List}
 use Prim.Native.Nat.{_%_, _*_, _+_, _-_, _/_, _<_, _≤_, min, ℕ}
 use lib.Dec.{ltb}
 use lib.ListN.{getD}
-use Rattle.preference.specs.Order.{sum}
+use Rattle.lists.specs.Sums.{sum}
 use Rattle.ranking.specs.Keys.{never}
 
 -- 1 where a is below b, else 0

@@ -10,9 +10,10 @@ use lib.ListN.{getD}
 use lib.Pow.{pow-mono, pow-pos}
 use native.Mathlib.Decide.{decLt, ℕ-discrete}
 use native.Mathlib.Omega.{arith}
+use Rattle.lists.specs.Sums.{sum}
 use Rattle.preference.specs.Candidates.{switched}
 use Rattle.preference.specs.InArrays.{opensAt}
-use Rattle.preference.specs.Order.{costOf, found, nothing, place, searched, spent, sum}
+use Rattle.preference.specs.Order.{costOf, found, nothing, place, searched, spent}
 use Rattle.preference.proofs.OrderLaws.{searched-means, searched-same}
 use Rattle.preference.proofs.OrderTheoremsProof.{other-places}
 use Rattle.relevance.specs.Places.{SameAnswer}

@@ -7,8 +7,8 @@ use Prim.Native.Nat.{_%_, _*_, _+_, _/_, _<_, _≤_, ℕ}
 use lib.ListN.{getD}
 use native.Mathlib.Decide.{decLt}
 use native.Mathlib.Omega.{arith}
+use Rattle.lists.specs.Sums.{sum}
 use Rattle.preference.specs.InArrays.{opensAt}
-use Rattle.preference.specs.Order.{sum}
 use Rattle.lanes.specs.Blocks.{Unlocking}
 use Rattle.ranking.specs.Cheapest.{Cheapest, Passing}
 use Rattle.ranking.specs.Grid.{Grid, Settled, Tables, keyAt, neverKey}

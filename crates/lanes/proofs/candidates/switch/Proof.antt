@@ -3,7 +3,7 @@ use mathlib.Core.Path.{_≡_}
 use Prim.Native.Nat.{_-_}
 use borrow.Author.Needs.{needs}
 use native.Mathlib.Omega.{arith}
-use Rattle.lanes.proofs.LowestLaws.{one-fits, one-small}
+use Rattle.lane_fixpoint.proofs.LowestLaws.{one-fits, one-small}
 use Rattle.lanes.proofs.SwitchingLaws.{Switching, noted-next, switching-first, switching-next}
 use Rattle.lanes.proofs.candidates.switch.Statement.{statement}
 use Rattle.lanes.proofs.candidates.switch.Tie as tie

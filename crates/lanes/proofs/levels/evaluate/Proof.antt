@@ -49,7 +49,7 @@ loop-less c = omega arith
 loop-again : tie.Need-loop-again Inv-loop μ-loop
 loop-again c =
     let l = c .before .before .before .before .before .loop in
-    evaluating-next _ _ _ _ _ _ _ _ (l .level) _ _ (omega arith) (l .inv) (c .close .ensures)
+    evaluating-next _ _ _ _ _ _ _ _ (l .level) _ _ (omega arith) (l .inv) (c .close .ensures .0)
 
 returns : tie.Need-returns Inv-loop μ-loop
 returns c = evaluating-done _ _ _ _ _ _ _ _ (c .before .loop .level) (omega arith) (c .before .loop .inv)

@@ -1,0 +1,49 @@
+-- What is negated, read for all lanes at once. Assumes nothing.
+use mathlib.Core.Path.{_∙_, _≡_, ap, refl, subst, sym}
+use mathlib.Core.Logic.{_≢_}
+use mathlib.Core.List.{List}
+use Prim.Native.Nat.{_+_, _<_, _≤_, ℕ}
+use lib.ListN.{getD, length}
+use native.Mathlib.Decide.{ℕ-discrete}
+use native.Mathlib.Omega.{arith}
+use Rattle.atoms.specs.Sets.{disjoint, member}
+use Rattle.lane_fixpoint.specs.Firing.{HavingAny}
+use Rattle.lane_table.specs.LaneSets.{Complement, EachLane, word}
+use Rattle.lane_fixpoint.specs.Closure.{Reduced}
+use Rattle.lane_table.specs.Tables.{Same, Stored, cell, lane}
+use Rattle.lane_table.specs.declared.lane_set.LaneSet.{LaneSet}
+use Rattle.lane_table.proofs.BitLaws.{member-others}
+use Rattle.lane_table.proofs.LaneLaws.{stored-same}
+
+pub below : (j k : ℕ) → j < k + 1 → j ≢ k → j < k
+below j k b ne = omega arith
+
+-- of the rules before place k it is read
+module _ (negated : List ℕ) (from : ℕ) where
+  pub record Reducing (before table : List ℕ) (k : ℕ) : Type 0 where
+    pub long : length table ≡ 768
+    pub same : Same before table
+    pub says : EachLane (λ t i. (j : ℕ) → from ≤ j → j < k → member i (cell table t (64 + j)) ≡ disjoint (getD negated j 0) (lane before t i))
+
+  pub reducing-first : (table : List ℕ) → length table ≡ 768 → Reducing table table from
+  reducing-first table len = record { long = len; same = λ t i l n. refl; says = λ t i l n j a b. absurd (omega arith) }
+
+  pub reducing-next : (before table after : List ℕ) (hit rest : LaneSet) (k : ℕ) → Reducing before table k → HavingAny table (getD negated k 0) hit
+      → Complement hit rest → Stored (64 + k) rest table after → Reducing before after (k + 1)
+  reducing-next before table after hit rest k s hits rests stores = record {
+    long = stores .long;
+    same = λ t i l n. stored-same (64 + k) rest table after stores (omega arith) t i l n ∙ s .same t i l n;
+    says = λ t i l n j a b. go t i l n j a b (ℕ-discrete j k);
+  }
+    where
+      go : (t i : ℕ) → t < 4 → i < 64 → (j : ℕ) → from ≤ j → j < k + 1 → Dec (j ≡ k)
+          → member i (cell after t (64 + j)) ≡ disjoint (getD negated j 0) (lane before t i)
+      go t i l n j a b (yes e) =
+          subst (λ (x : ℕ). member i (cell after t (64 + x)) ≡ disjoint (getD negated x 0) (lane before t i)) (sym e)
+          (ap (λ (x : ℕ). member i x) (stores .here t l ∙ rests .each t)
+          ∙ member-others (word hit t) i (rests .small t) n ∙ hits .each t i l n ∙ ap (disjoint (getD negated k 0)) (s .same t i l n))
+      go t i l n j a b (no ne) =
+          ap (λ (x : ℕ). member i x) (stores .there t (64 + j) l (λ e. ne (omega arith))) ∙ s .says t i l n j a (below j k b ne)
+
+  pub reducing-done : (before table : List ℕ) (k to : ℕ) → to ≤ k → Reducing before table k → Reduced negated from to before table
+  reducing-done before table k to done s = record { long = s .long; same = s .same; says = λ t i l n j a b. s .says t i l n j a (omega arith) }

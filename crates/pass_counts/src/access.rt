@@ -1,0 +1,46 @@
+// The access rules, closed over level by level from one set.
+ghost use Rattle.records.specs.Levels.{levelCount};
+ghost use Rattle.arrays.specs.Arrays.{Placed};
+use crate::print;
+use arrays::LEVELS;
+use arrays::Starts;
+use atoms::AtomSet;
+use fixpoint::close;
+
+// Prints the count of each level, and then the model.
+pub(crate) fn closed<'a>(
+    heads: &'a [u64; 128],
+    positive: &'a [u64; 128],
+    negated: &'a [u64; 128],
+    starts: &'a Starts,
+    credentials: AtomSet,
+)
+    requires { ⌜ Placed levelCount (now heads) (now starts) ⌝ }
+{
+    print::text(b" access");
+    let model = levels(heads, positive, negated, starts, credentials);
+    print::set(b" model ", model.bits, 16);
+}
+
+// One level after another.
+fn levels<'a>(
+    heads: &'a [u64; 128],
+    positive: &'a [u64; 128],
+    negated: &'a [u64; 128],
+    starts: &'a Starts,
+    credentials: AtomSet,
+) -> AtomSet
+    requires { ⌜ Placed levelCount (now heads) (now starts) ⌝ }
+{
+    let mut set = credentials;
+    let mut level: usize = 0;
+    while level < LEVELS {
+        let from = starts[level];
+        let to = starts[level + 1];
+        let fixpoint = close(heads, positive, negated, from, to, set);
+        print::count(fixpoint.passes);
+        set = fixpoint.set;
+        level += 1;
+    }
+    set
+}
