@@ -13,9 +13,9 @@ use Rattle.iteration.proofs.LoopLaws.{Running, running-few, running-first, runn
 use Rattle.iteration.proofs.RuleLaws.{closed-passes, closed-same, closed-settle, heads-atoms, over-adding}
 use Rattle.arrays.specs.Arrays.{rulesIn}
 use Rattle.lane_table.specs.LaneSets.{EachLane}
+use Rattle.lane_table.specs.Tables.{Added, lane}
 use Rattle.lane_fixpoint.specs.Closure.{LanesClosedIn, LevelClosed, Reduced, laneAt, lanePassCount}
 use Rattle.lane_fixpoint.specs.Passes.{Covers, Passed, Says, Stale}
-use Rattle.lane_table.specs.Tables.{Added, lane}
 use Rattle.lane_fixpoint.specs.declared.passes.Progress.{Progress}
 
 -- the set of lane (t, i) is one of the 256 sets side by side

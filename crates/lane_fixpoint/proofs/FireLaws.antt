@@ -10,12 +10,12 @@ use native.Mathlib.Omega.{arith}
 use Rattle.atoms.specs.Sets.{Member, bit, member, subset, union}
 use Rattle.atoms.proofs.SetLaws.{bit-empty, bit-intersection, bit-lt, bit-one, bit-union, inhabited, intersection-iff, member-low}
 use Rattle.arrays.specs.Arrays.{OneAtom}
-use Rattle.lane_fixpoint.specs.Firing.{Fired, FiredIn, HavingAll}
 use Rattle.lane_table.specs.LaneSets.{Both, Complement, Either, Empty, word}
 use Rattle.lane_table.specs.Tables.{Added, Loaded, Same, Stored, cell, lane}
 use Rattle.lane_table.specs.declared.lane_set.LaneSet.{LaneSet}
 use Rattle.lane_table.proofs.BitLaws.{InOrOut, bit-other, bit-others, tested}
 use Rattle.lane_table.proofs.LaneLaws.{lane-bit, stored-lane}
+use Rattle.lane_fixpoint.specs.Firing.{Fired, FiredIn, HavingAll}
 use Rattle.lane_fixpoint.proofs.LowestLaws.{one-fits, one-trailing}
 
 module _ (k head positive : ℕ) (before after : List ℕ) (reduct body old joined rest new : LaneSet) (none : Bool)

@@ -15,11 +15,11 @@ use Rattle.arrays.specs.Arrays.{OneAtom, rulesIn}
 use Rattle.arrays.proofs.ArrayLaws.{pass-done-at, pass-next-at}
 use Rattle.arrays.proofs.HeadLaws.{one-some}
 use Rattle.lane_table.specs.LaneSets.{EachLane}
+use Rattle.lane_table.specs.Tables.{Added, Kept, Same, cell, lane}
 use Rattle.lane_fixpoint.specs.Passes.{Covers, Moved, Passed, Satisfied, Says, Stale, Stepped}
-use Rattle.lane_table.specs.Tables.{Added, Grows, Kept, Same, cell, lane}
 use Rattle.lane_fixpoint.specs.declared.passes.Progress.{Progress}
 use Rattle.lane_fixpoint.proofs.ReduceLaws.{below}
-use Rattle.lane_fixpoint.proofs.SatisfiedLaws.{apart-less, satisfied-own, satisfied-still, step-grows}
+use Rattle.lane_fixpoint.proofs.SatisfiedLaws.{Grows, apart-less, satisfied-own, satisfied-still, step-grows}
 
 -- the rules from place k on are left
 module _ (heads positive : List ℕ) (from to delta initial : ℕ) where

@@ -7,13 +7,13 @@ use lib.ListN.{getD, length}
 use native.Mathlib.Decide.{ℕ-discrete}
 use native.Mathlib.Omega.{arith}
 use Rattle.atoms.specs.Sets.{disjoint, member}
-use Rattle.lane_fixpoint.specs.Firing.{HavingAny}
 use Rattle.lane_table.specs.LaneSets.{Complement, EachLane, word}
-use Rattle.lane_fixpoint.specs.Closure.{Reduced}
 use Rattle.lane_table.specs.Tables.{Same, Stored, cell, lane}
 use Rattle.lane_table.specs.declared.lane_set.LaneSet.{LaneSet}
 use Rattle.lane_table.proofs.BitLaws.{member-others}
 use Rattle.lane_table.proofs.LaneLaws.{stored-same}
+use Rattle.lane_fixpoint.specs.Firing.{HavingAny}
+use Rattle.lane_fixpoint.specs.Closure.{Reduced}
 
 pub below : (j k : ℕ) → j < k + 1 → j ≢ k → j < k
 below j k b ne = omega arith

@@ -8,9 +8,13 @@ use lib.Bits.{bitAnd}
 use Rattle.atoms.specs.Sets.{Member, Subset, member, subset, union}
 use Rattle.atoms.proofs.SetLaws.{intersection-iff, none-in-empty, none-is-empty, subset-true, true-subset, union-cases, union-left, union-right}
 use Rattle.lane_table.specs.LaneSets.{EachLane}
+use Rattle.lane_table.specs.Tables.{cell, lane}
 use Rattle.lane_fixpoint.specs.Passes.{Moved, Satisfied, Stepped}
-use Rattle.lane_table.specs.Tables.{Grows, cell, lane}
 use Rattle.lane_fixpoint.specs.declared.passes.Progress.{Progress}
+
+-- no set has lost an atom
+abbrev pub Grows : List ℕ → List ℕ → Type 0
+Grows before after = EachLane (λ t i. Subset (lane before t i) (lane after t i))
 
 -- ---- sets that share nothing
 apart : (p x k : ℕ) → bitAnd p x ≡ 0 → Member k p → Member k x → ⊥

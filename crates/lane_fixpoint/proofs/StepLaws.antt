@@ -9,12 +9,12 @@ use lib.ListN.{length}
 use native.Mathlib.Omega.{arith}
 use Rattle.atoms.specs.Sets.{Member, Subset, member, subset, union}
 use Rattle.atoms.proofs.SetLaws.{inhabited, intersection-iff, member-low, subset-antisym, subset-true, union-least, union-left, union-right}
-use Rattle.lane_fixpoint.specs.Firing.{Fired, FiredIn}
-use Rattle.lane_fixpoint.specs.Passes.{Covers, Satisfied, Stepped}
 use Rattle.lane_table.specs.Tables.{Same, cell, lane}
-use Rattle.lane_fixpoint.specs.declared.passes.Progress.{Progress}
 use Rattle.lane_table.proofs.BitLaws.{bit-others, full-bit}
 use Rattle.lane_table.proofs.LaneLaws.{lane-low}
+use Rattle.lane_fixpoint.specs.Firing.{Fired, FiredIn}
+use Rattle.lane_fixpoint.specs.Passes.{Covers, Satisfied, Stepped}
+use Rattle.lane_fixpoint.specs.declared.passes.Progress.{Progress}
 
 -- what covers the lanes still covers them
 pub covers-same : (possible : ℕ) (before after : List ℕ) → Same before after → Covers possible before → Covers possible after

@@ -15,9 +15,9 @@ use Rattle.iteration.specs.IdlePasses.{Idle, atomsAdded, headsOf}
 use Rattle.iteration.proofs.CountLaws.{closed-least}
 use Rattle.iteration.proofs.IdleLaws.{idle-is, is-idle, none-idle}
 use Rattle.iteration.proofs.RuleLaws.{heads-atoms, over-adding}
-use Rattle.lane_fixpoint.specs.Closure.{LanesClosedIn, laneAt}
 use Rattle.lane_table.specs.LaneSets.{EachLane}
 use Rattle.lane_table.specs.Tables.{lane}
+use Rattle.lane_fixpoint.specs.Closure.{LanesClosedIn, laneAt}
 use Rattle.lane_fixpoint.specs.Theorems.{EachClosedIn, Theorems}
 use Rattle.lane_fixpoint.proofs.CloseLaws.{each-at, lane-at}
 

@@ -10,8 +10,8 @@ use Rattle.iteration.specs.Counting.{passCount}
 use Rattle.iteration.specs.IdlePasses.{ClosedIn, headsOf}
 use Rattle.arrays.specs.Arrays.{rulesIn}
 use Rattle.lane_table.specs.LaneSets.{EachLane}
-use Rattle.lane_fixpoint.specs.Passes.{Covers}
 use Rattle.lane_table.specs.Tables.{Same, cell, lane}
+use Rattle.lane_fixpoint.specs.Passes.{Covers}
 
 -- what reducing the rules at places `from` to `to` needs: some of the 128 places, and a whole table
 pub record Reducible (from to : ℕ) (table : List ℕ) : Type 0 where

@@ -9,9 +9,9 @@ use lib.ListN.{getD, length}
 use Rattle.atoms.specs.Sets.{Subset, disjoint, member, subset}
 use Rattle.rules.specs.LevelByLevel.{passOver}
 use Rattle.arrays.specs.Arrays.{rulesIn}
-use Rattle.lane_fixpoint.specs.Firing.{FiredIn}
 use Rattle.lane_table.specs.LaneSets.{EachLane}
 use Rattle.lane_table.specs.Tables.{Added, Kept, Same, cell, lane}
+use Rattle.lane_fixpoint.specs.Firing.{FiredIn}
 use Rattle.lane_fixpoint.specs.declared.passes.Progress.{Progress}
 
 -- no lane has an atom outside `possible`

@@ -9,9 +9,9 @@ use Rattle.rules.specs.LevelByLevel.{passOver}
 use Rattle.rules.specs.Model.{times}
 use Rattle.rules.specs.Rules.{Rule}
 use Rattle.iteration.specs.IdlePasses.{headsOf}
-use Rattle.lane_fixpoint.specs.Closure.{LanesClosedIn}
 use Rattle.lane_table.specs.LaneSets.{EachLane}
 use Rattle.lane_table.specs.Tables.{lane}
+use Rattle.lane_fixpoint.specs.Closure.{LanesClosedIn}
 
 -- n passes made `after` of `before` in each lane; one more, the last, added nothing to any; and each of the n added something to some lane
 pub record EachClosedIn (rs : List Rule) (before after : List ℕ) (n : ℕ) : Type 0 where

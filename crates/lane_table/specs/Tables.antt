@@ -5,7 +5,7 @@ use mathlib.Core.Bool.{cond}
 use mathlib.Core.List.{List}
 use Prim.Native.Nat.{_*_, _+_, _<_, _^_, suc, zero, ℕ}
 use lib.ListN.{getD, length}
-use Rattle.atoms.specs.Sets.{Member, Subset, bit, member, union}
+use Rattle.atoms.specs.Sets.{Member, bit, member, union}
 use Rattle.lane_table.specs.LaneSets.{EachLane, word}
 use Rattle.lane_table.specs.declared.lane_set.LaneSet.{LaneSet}
 
@@ -36,12 +36,9 @@ gather (suc n) f i = cond (member i (f n)) (union (gather n f i) (2 ^ n)) (gathe
 unfoldable pub lane : List ℕ → ℕ → ℕ → ℕ
 lane table t i = gather 64 (cell table t) i
 
--- no set has changed; none has lost an atom
+-- no set has changed
 abbrev pub Same : List ℕ → List ℕ → Type 0
 Same before after = EachLane (λ t i. lane after t i ≡ lane before t i)
-
-abbrev pub Grows : List ℕ → List ℕ → Type 0
-Grows before after = EachLane (λ t i. Subset (lane before t i) (lane after t i))
 
 -- the set of a lane has gained an atom
 pub record Added (before after : List ℕ) : Type 0 where

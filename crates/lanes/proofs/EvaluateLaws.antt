@@ -8,9 +8,9 @@ use Rattle.rules.specs.LevelByLevel.{levelByLevel}
 use Rattle.arrays.specs.Arrays.{evaluated, levelsIn}
 use Rattle.arrays.proofs.ArrayLaws.{levels-done-at, levels-next-at}
 use Rattle.lane_table.specs.LaneSets.{EachLane}
+use Rattle.lane_table.specs.Tables.{lane}
 use Rattle.lane_fixpoint.specs.Closure.{LevelClosed}
 use Rattle.lane_fixpoint.specs.Passes.{Covers}
-use Rattle.lane_table.specs.Tables.{lane}
 use Rattle.lanes.specs.Levels.{Evaluated}
 
 -- ---- all levels: those from l on are left

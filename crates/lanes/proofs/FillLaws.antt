@@ -10,11 +10,11 @@ use native.Mathlib.Omega.{arith}
 use Rattle.atoms.specs.Sets.{Subset, bit, union}
 use Rattle.atoms.proofs.SetLaws.{bit-empty, bit-lt, bit-one, bit-union, union-empty}
 use Rattle.lane_table.specs.LaneSets.{EachLane, Splat}
-use Rattle.lane_fixpoint.specs.Passes.{Covers}
 use Rattle.lane_table.specs.Tables.{Stored, lane, offset}
 use Rattle.lane_table.specs.declared.lane_set.LaneSet.{LaneSet}
 use Rattle.lane_table.proofs.BitLaws.{bit-other, full-bit}
 use Rattle.lane_table.proofs.LaneLaws.{lane-is, stored-lane}
+use Rattle.lane_fixpoint.specs.Passes.{Covers}
 use Rattle.lane_fixpoint.proofs.LowestLaws.{lowest-fits, rest-less, union-lowest}
 use Rattle.lanes.specs.Candidates.{Blank, Uniform}
 

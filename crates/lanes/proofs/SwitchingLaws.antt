@@ -16,11 +16,11 @@ use Rattle.arrays.specs.Arrays.{OneAtom}
 use Rattle.preference.specs.Candidates.{switched}
 use Rattle.preference.proofs.XorLaws.{bit-xor-in, bit-xor-out}
 use Rattle.lane_table.specs.LaneSets.{JustOne, word}
-use Rattle.lane_fixpoint.specs.Passes.{Covers}
 use Rattle.lane_table.specs.Tables.{Loaded, Stored, lane}
 use Rattle.lane_table.specs.declared.lane_set.LaneSet.{LaneSet}
 use Rattle.lane_table.proofs.BitLaws.{InOrOut, bit-other, bit-others, tested}
 use Rattle.lane_table.proofs.LaneLaws.{lane-bit, lane-low, stored-lane}
+use Rattle.lane_fixpoint.specs.Passes.{Covers}
 use Rattle.lane_fixpoint.proofs.LowestLaws.{one-fits, one-small, one-trailing}
 use Rattle.lanes.specs.Candidates.{Noted, Switched, Takers, number}
 
