@@ -7,7 +7,7 @@
  * or has a state of its own.
  *
  * For a watchdog: a round tries at most 65,535 sets of credentials, and no other function tries any. The deepest stack
- * below the caller was measured as 16,160 bytes in a round, 6,688 for the model and less for the others (docs/PERFORMANCE.md).
+ * below the caller was measured as 17,632 bytes in a round, 8,080 for the model and less for the others (docs/PERFORMANCE.md).
  *
  * The caller owes what C cannot show: pointers that are not null (also where a length is 0), aligned for their type, to
  * memory that is there and has been written before; no overlap of what one call writes with anything else that it is
@@ -54,7 +54,7 @@ enum { GATE_FRESH = 0, GATE_WAITING = 1, GATE_GRANTED = 2, GATE_DENIED = 3 };
  *
  *   0                   nothing is refused, and there is no more to say; never of a round
  *   byte 0 is not 0     refused with that number, 1 to 13; with 1 to 6, 12 and 13, the policy's, byte 1 is the
- *                       number of its record
+ *                       number of its record, counted from 0, or with 6 the number of all its records
  *   byte 0 is 0         a round, not refused: byte 1 is 1 for grant, 2 for deny, 3 for a question; the set asked for is
  *                       GATE_ASKED of the session that the round leaves
  *                       two logs that part: byte 1 is 4

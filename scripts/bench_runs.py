@@ -100,7 +100,7 @@ def only_ends(process, run):
 def split_runs(runs):
     """In two pieces, split at each place."""
     odd = "odd byte ff after closing", "odd byte ff after a refused request"
-    for name in ("(a) the three rounds", "(f) 17 if not 24", "(j) policy B", "ties", "weights: 2 and 3 weigh 3", *odd):
+    for name in ("(a) the three rounds", "17 if not 17", "(j) policy B", "ties", "weights: 2 and 3 weigh 3", *odd):
         run = runs[name]
         for at in range(1, len(run.input)):
             yield f"{name}, split at {at}", run, in_pieces(run.input[:at], run.input[at:])
@@ -127,7 +127,7 @@ def answered_runs(runs):
 def unprinted_runs(runs):
     """Output that fails."""
     ways = {"full": full, "closed": closed, "not read": not_read(True), "not read, no signal": not_read(False)}
-    names = "(a) the three rounds", "(f) 17 if not 24", "request 15 alone", "twenty records after deny", "3000 records after deny"
+    names = "(a) the three rounds", "17 if not 17", "request 15 alone", "twenty records after deny", "3000 records after deny"
     for name, word in itertools.product(names, ways):
         yield f"{name}, output {word}", runs[name], ways[word]
 
@@ -136,7 +136,7 @@ def unread_runs(runs):
     """Input that fails, and input that is left once the output has ended."""
     for word, way in (("closed", closed_input), ("a folder", folder_as_input)):
         yield f"no input, policy good, input {word}", runs["no input, policy good"], way
-    for name in ("(f) 17 if not 24", "2305 bytes", "request 15 alone", "request 272, three records after it"):
+    for name in ("17 if not 17", "2305 bytes", "request 15 alone", "request 272, three records after it"):
         yield f"{name}, input left open", runs[name], left_open
 
 

@@ -10,7 +10,7 @@ import struct
 import threading
 import time
 
-from rounds import EMPTY, POLICY_A, Session, accepted_round, credentials, encoded, weight
+from rounds import EMPTY, POLICY_A, Session, accepted_round, credentials, encoded, weight, without_levels
 
 # policy: its bytes, or None where there is no file, or a function that makes it, given its path.
 Run = collections.namedtuple("Run", "name policy input printed")
@@ -28,6 +28,8 @@ def disclosure(head, *positive):
 
 ALWAYS_16 = access(16)
 NOT_24 = access(17, negated=[24])
+# Refused 6, by itself and among other records.
+OWN_17 = access(17, negated=[17])
 POLICY_B = [access(16, [0, 1]), access(16, [2, 3]), access(63, [0, 2]), *map(disclosure, range(4))]
 
 
@@ -67,7 +69,8 @@ def marked():
     yield by_hand("(c) 16 with empty body", [ALWAYS_16], (16, 0), "round 1 got 0000 grant")
     yield by_hand("(d) policy A, 0 and 2", POLICY_A, (16, 5), "round 1 got 0005 deny")
     yield by_hand("(e) policy A, 2 and 3", POLICY_A, (16, 12), "round 1 got 000c deny")
-    yield by_hand("(f) 17 if not 24", [NOT_24], (17, 0), "refused 6 at 0")
+    yield by_hand("(f) 17 if not 24", [NOT_24], (17, 0), "round 1 got 0000 grant")
+    yield by_hand("17 if not 17", [OWN_17], (17, 0), "refused 6 at 1")
     yield by_hand("(g) 24 if not 23", [access(24, negated=[23])], (24, 0), "round 1 got 0000 grant")
     twenty_three = access(16, [23]), access(23, [0]), disclosure(0)
     yield by_hand("(h) 16 if 23", [twenty_three[0]], (16, 0), "round 1 got 0000 deny")
@@ -89,8 +92,8 @@ BROKEN = [
     *((5, access(head, negated=[63])) for head in (16, 62, 63)),
     *((5, disclosure(0, atom)) for atom in (16, 62, 63)),
     *((5, (2, 15, set(), {atom})) for atom in (0, 15, 16, 62, 63)),
-    *((6, access(head, [atom])) for head, atom in ((16, 24), (55, 56), (23, 62))),
-    *((6, access(head, negated=[atom])) for head, atom in ((16, 16), (17, 24), (62, 56))),
+    *((6, access(head, negated=[head])) for head in (16, 17, 24, 55, 62)),
+    *((6, access(head, [head], [head])) for head in (16, 62)),
     *((4, weight(head, 1)) for head in (16, 63, 255)),
     *((12, weight(0, weighs)) for weighs in (16, 256, 1 << 32, 1 << 63, (1 << 64) - 1)),
     *((12, weight(15, 15, [atom])) for atom in (0, 15, 16, 63)),
@@ -119,7 +122,7 @@ def second_weights():
 
 
 def policies_refused():
-    """Refusals 1 to 6 and 12, each with its record number; further records print nothing."""
+    """Refusals 1 to 6 and 12, each with its number of a record; further records print nothing."""
     for length in (1, 2, 17, 19, 35, 37, 180, 181, 1799, 1801, 2303):
         file = written([ALWAYS_16] * 128)[:length]
         lines = [f"refused 2 at {length // 18}"] if length % 18 else ["round 1 got 0000 grant"]
@@ -129,12 +132,42 @@ def policies_refused():
         records = [ALWAYS_16] * at + [record] + [ALWAYS_16] * (127 - at)
         kind, head, positive, negated = record
         name = f"kind {kind} head {head} if {sorted(positive)} not {sorted(negated)}"
-        yield by_hand(f"{name} at record {at}", records, (16, 0, 1, 0xFFFF), f"refused {number} at {at}")
-        yield by_hand(f"{name} alone", [record], (16,), f"refused {number} at 0")
+        # 6 has the count of records.
+        yield by_hand(f"{name} at record {at}", records, (16, 0, 1, 0xFFFF), f"refused {number} at {128 if number == 6 else at}")
+        yield by_hand(f"{name} alone", [record], (16,), f"refused {number} at {int(number == 6)}")
     three = BROKEN[0][1]
-    yield by_hand("6 at record 0, 3 at record 1", [NOT_24, three], (16, 0), "refused 6 at 0")
-    yield by_hand("3 at record 0, 6 at record 1", [three, NOT_24], (16, 0), "refused 3 at 0")
+    yield by_hand("6 at record 0, 3 at record 1", [OWN_17, three], (16, 0), "refused 3 at 1")
+    yield by_hand("3 at record 0, 6 at record 1", [three, OWN_17], (16, 0), "refused 3 at 0")
     yield by_hand("3 at record 0, 35 bytes", written([three, three])[:35], (16, 0), "refused 2 at 1")
+
+
+def looped(atoms, *negated):
+    """Each atom if the next one, the last if the first; those at some places if not."""
+    pairs = enumerate(zip(atoms, [*atoms[1:], atoms[0]]))
+    return [access(head, negated=[body]) if place in negated else access(head, [body]) for place, (head, body) in pairs]
+
+
+def levels():
+    """6 after all other numbers, with the count of records; policies with positive loops, and numbered against the order."""
+    for atoms in ((16, 17), (62, 16), (24, 40, 16), (16, 62, 17, 61), range(16, 63), range(62, 15, -1)):
+        name, count = f"a loop of {len(atoms)} from {atoms[0]} on", len(atoms)
+        entered = [*looped(atoms), access(atoms[1], [0]), disclosure(0)]
+        asked = "round 1 got 0000 ask 0001", "round 2 got 0001 grant"
+        yield by_hand(name, looped(atoms), (atoms[0], 0), "round 1 got 0000 deny")
+        yield by_hand(f"{name}, entered", entered, (atoms[0], 0, 1), *asked)
+        for place in sorted({0, count // 2, count - 1}):
+            yield by_hand(f"{name}, not at {place}", looped(atoms, place), (16, 0), f"refused 6 at {count}")
+        inside = [*entered, access(atoms[0], negated=[atoms[-1]])]
+        yield by_hand(f"{name}, a not inside it", inside, (16, 0), f"refused 6 at {count + 3}")
+    one, twice = weight(0, 5), [weight(0, 5), weight(0, 5)]
+    others = (3, BROKEN[0][1]), (4, access(15)), (5, access(16, [63])), (12, weight(0, 16))
+    for number, record in others:
+        yield by_hand(f"6 at record 0, {number} at record 2", [OWN_17, one, record], (16, 0), f"refused {number} at 2")
+        yield by_hand(f"{number} at record 1, 6 at record 2", [ALWAYS_16, record, OWN_17], (16, 0), f"refused {number} at 1")
+    yield by_hand("6 at record 0, 13 at record 2", [OWN_17, *twice], (16, 0), "refused 13 at 2")
+    yield by_hand("6 at record 0, 35 bytes", written([OWN_17, OWN_17])[:35], (16, 0), "refused 2 at 1")
+    yield by_hand("6 at record 0, 2305 bytes", written([OWN_17] * 129)[:2305], (16, 0), "refused 1 at 128")
+    yield by_hand("6 at record 1, other kinds beside it", [one, OWN_17, disclosure(0)], (16, 0), "refused 6 at 3")
 
 
 def directory(path):
@@ -171,12 +204,12 @@ def unreadable(path):
 
 def files():
     """How long policy.bin may be, and what counts as empty."""
-    full = [ALWAYS_16] * 127 + [access(40, [3]), disclosure(3), NOT_24]
+    full = [ALWAYS_16] * 127 + [access(40, [3]), disclosure(3), OWN_17]
     asked = "round 1 got 0000 ask 0008", "round 2 got 0008 grant"
     deciding = [full[0]] * 126 + full[127:129]
     yield by_hand("2304 bytes, the last two records decide", deciding, (40, 0, 8), *asked)
     yield by_hand("2304 bytes, the first one does", full[:128], (16, 0), "round 1 got 0000 grant")
-    yield by_hand("2304 bytes, the last one is refused", full[:127] + [NOT_24], (16, 0), "refused 6 at 127")
+    yield by_hand("2304 bytes, the last one is refused", full[:127] + [OWN_17], (16, 0), "refused 6 at 128")
     for length in (2305, 2306, 2322, 3000, 4096, 100_000):
         long = written([ALWAYS_16] * (length // 18 + 1))[:length]
         yield by_hand(f"{length} bytes", long, (16, 0), "refused 1 at 128")
@@ -201,7 +234,7 @@ def files():
 
 
 def without_request():
-    for name, policy in (("good", POLICY_A), ("refused", [NOT_24]), ("missing", None), ("too long", bytes(2305))):
+    for name, policy in (("good", POLICY_A), ("refused", [OWN_17]), ("missing", None), ("too long", bytes(2305))):
         yield by_hand(f"no input, policy {name}", policy, ())
         for odd in (b"\0", b"\x10", b"\xff"):
             yield by_hand(f"one byte {odd.hex()}, policy {name}", policy, (), odd=odd)
@@ -211,10 +244,10 @@ def requests():
     for request in (0, 1, 15, 63, 64, 80, 255, 256, 272, 4096, 32768, 65535):
         yield by_hand(f"request {request} alone", POLICY_A, (request,), "refused 7")
         yield by_hand(f"request {request}, three records after it", POLICY_A, (request, *SHOWN_A), "refused 7")
-        yield by_hand(f"request {request}, policy refused too", [NOT_24], (request, *SHOWN_A), "refused 6 at 0")
+        yield by_hand(f"request {request}, policy refused too", [OWN_17], (request, *SHOWN_A), "refused 6 at 1")
     for request in (16, 17, 40, 61, 62):
         yield by_hand(f"request {request} alone", POLICY_A, (request,))
-        yield by_hand(f"request {request} alone, policy refused", [NOT_24], (request,), "refused 6 at 0")
+        yield by_hand(f"request {request} alone, policy refused", [OWN_17], (request,), "refused 6 at 1")
         yield by_hand(f"request {request}, always", [access(request)], (request, 0), "round 1 got 0000 grant")
         unheard = [access(other) for other in (16, 17, 40, 61, 62) if other != request]
         yield by_hand(f"request {request}, others always", unheard, (request, 0), "round 1 got 0000 deny")
@@ -228,7 +261,7 @@ def odd_bytes():
             yield by_hand(name, POLICY_A, (16, *SHOWN_A[:count]), *ROUNDS_A[:count], odd=odd)
         closed = *ROUNDS_A, "refused 9", "refused 9"
         yield by_hand(f"odd byte {odd.hex()} after closing", POLICY_A, (16, *SHOWN_A, 0, 3), *closed, odd=odd)
-        yield by_hand(f"odd byte {odd.hex()} after a refused policy", [NOT_24], (16,), "refused 6 at 0", odd=odd)
+        yield by_hand(f"odd byte {odd.hex()} after a refused policy", [OWN_17], (16,), "refused 6 at 1", odd=odd)
         yield by_hand(f"odd byte {odd.hex()} after a refused request", POLICY_A, (15,), "refused 7", odd=odd)
 
 
@@ -288,15 +321,22 @@ def weights():
     yield by_hand("weights: sixteen, all declined", single + falling, (16, *[0] * 17), *lines)
 
 
-def some_policy(source):
-    """Six credentials, each askable, and rules on levels 2, 3 and 8."""
-    records = [disclosure(atom, *source.sample(range(6), source.choice((0, 0, 1)))) for atom in range(6)]
+def some_rules(source):
+    """Three to eight rules over six credentials and four roles, numbered freely; they need not have levels."""
     for _ in range(source.randint(3, 8)):
         head = source.choice((16, 16, 17, 24, 24, 25, 63))
-        below = [*range(6), *(atom for atom in (16, 17, 24, 25) if atom < head - head % 8)]
+        below = [*range(6), *range(6), *(atom for atom in (16, 17, 24, 25) if atom != head)]
         positive, negated = source.sample(below, source.randint(1, 3)), source.sample(below, source.choice((0, 0, 1)))
-        records.append(access(head, positive, negated))
-    return records
+        yield access(head, positive, negated)
+
+
+def some_policy(source):
+    """Six credentials, each askable, and rules that have levels."""
+    records = [disclosure(atom, *source.sample(range(6), source.choice((0, 0, 1)))) for atom in range(6)]
+    rules = list(some_rules(source))
+    while without_levels(rules):
+        rules = list(some_rules(source))
+    return records + rules
 
 
 def some_rounds(source):
@@ -329,5 +369,5 @@ def weighed_at_random():
 
 def runs():
     first = marked, policies_refused, second_weights, files, without_request, requests, odd_bytes, after_closing
-    for some in (*first, several_rounds, weights, at_random, weighed_at_random):
+    for some in (*first, levels, several_rounds, weights, at_random, weighed_at_random):
         yield from some()

@@ -1,10 +1,10 @@
 #!/usr/bin/env python3
-"""The cases of the program `cases` and the answers to them, from documents 01 and 02 (R-2, weights) and not from our code.
+"""The cases of the program `cases` and the answers to them, from documents 01 and 02 (R-2, weights; R-4, levels) and not from our code.
 
     scripts/expected_cases.py            write crates/cases/stdin and crates/cases/stdout
     scripts/expected_cases.py --check    say whether these two files are what the script makes
 
-Rounds are worked out by rounds.py.
+Rounds, and whether the atoms have levels, are worked out by rounds.py.
 
 stdin, for each case, with numbers of two bytes, little-endian:
     what is asked: 1 the policy's test, 2 an opening, 3 a round, 4 an opening and a list of rounds
@@ -17,10 +17,11 @@ stdin, for each case, with numbers of two bytes, little-endian:
     of a list: the request, how many rounds there are, four at most, and four numbers, what is shown in each round
 stdout: the line of each case, with the answer.
 
-The cases were chosen by wrong readings of the papers: every comparison of level, fault, tested, is_service, is_sound and refusal off by one
-either way, every clause dropped or turned round, every test before another, every edge of a range, a level, a weight or a length moved, one
-value let in or shut out, weights read, added or compared otherwise. Each changes at least two lines, save those that say the same in other
-words, such as 9 for the level of 63.
+The cases were chosen by wrong readings of the papers: every comparison of fault, tested, is_service, is_sound and refusal off by one
+either way, every clause dropped or turned round, every test before another, every edge of a range, a weight or a length moved, one
+value let in or shut out, weights read, added or compared otherwise; levels by number, loops of some length or kind refused or let in, rules
+or atoms left out of the test of levels or taken into it, 6 before another number or at another record. Each changes at least two lines,
+save those that say the same in other words.
 """
 import collections
 import itertools
@@ -28,7 +29,7 @@ import re
 import struct
 import sys
 
-from rounds import POLICY_A, Session, accepted_round, atoms_of, credentials, encoded, is_service, number, refusal, weight
+from rounds import POLICY_A, Session, accepted_round, atoms_of, credentials, encoded, is_service, number, refusal, weight, without_levels
 from stored import stored
 
 Case = collections.namedtuple("Case", "asked name policy session shown said")
@@ -38,6 +39,8 @@ TEST, OPENING, ROUND, LIST = range(1, 5)
 MOST_ROUNDS = 4
 PHASES = "fresh", "waiting", "closed granted", "closed denied"
 ALWAYS_16 = (1, 16, set(), set())
+# "17 if not 17": where 6 is said to be at a record, this is it.
+OWN_17 = (1, 17, set(), {17})
 # Each line that begins with "kind" is a policy of one record.
 ONE_RECORD = """
 "3: kind neither 1 nor 2."
@@ -150,22 +153,16 @@ kind 2 head 0 if 1 not 0
 kind 2 head 15 if 0 not 16
 kind 2 head 15 if 0 not 62
 kind 2 head 0 if 1 not 63
-"no positive atom's level is above the head's"
+"Level by atom number makes owners renumber whole policies."
 kind 1 head 16 if 15
 kind 1 head 16 if 23
 kind 1 head 16 if 24
 kind 1 head 31 if 32
 kind 1 head 32 if 31
 kind 1 head 47 if 48
-"every negated atom's level is smaller than the head's"
 kind 1 head 16 not 15
-kind 1 head 16 not 16
 kind 1 head 17 not 24
 kind 1 head 24 not 23
-kind 1 head 24 not 24
-kind 1 head 24 if 24 not 24
-"The level of atoms 0 to 62 is the number divided by 8, rounded down"
-kind 1 head 31 not 31
 kind 1 head 32 not 31
 kind 1 head 39 not 40
 kind 1 head 40 not 39
@@ -174,13 +171,20 @@ kind 1 head 48 not 47
 kind 1 head 55 if 56
 kind 1 head 56 if 62
 kind 1 head 56 not 55
-kind 1 head 56 not 56
-kind 1 head 62 if 62
-"of 63 it is 8"
 kind 1 head 62 not 55
 kind 1 head 62 not 56
 kind 1 head 63 if 56
 kind 1 head 63 not 56
+kind 1 head 16 if 24 not 24
+kind 1 head 24 if 16 not 16
+"a rule "17 if not 17" is refused"
+kind 1 head 17 not 17
+kind 1 head 17 if 17 not 17
+kind 1 head 17 if 0 not 17
+kind 1 head 17 if 17 not 16
+kind 1 head 17 not 16 not 17
+kind 1 head 62 if 62
+kind 1 head 62 if 62 not 61
 "12, weight above 15 or negated set not empty"
 kind 3 head 0 weight 1 not 0
 kind 3 head 0 weight 1 not 1
@@ -230,12 +234,8 @@ kind 3 head 255 weight 16
 """
 
 
-def level(atom):
-    return 8 if atom == 63 else atom // 8
-
-
 def fault(kind, head, positive, negated, earlier):
-    """The number of the first of 3 to 6, 12 and 13 that a record breaks, or None."""
+    """The number of the first of 3 to 5, 12 and 13 that a record breaks, or None."""
     if kind not in (1, 2, 3):
         return 3
     if kind == 3:
@@ -245,8 +245,6 @@ def fault(kind, head, positive, negated, earlier):
             return 4
         if 63 in positive | negated:
             return 5
-        if any(level(a) > level(head) for a in positive) or any(level(a) >= level(head) for a in negated):
-            return 6
     else:
         if head > 15:
             return 4
@@ -273,7 +271,7 @@ def tested(policy):
         broken = fault(*record, policy.records[:place])
         if broken:
             return f"refused {broken} at {place}"
-    return "accepted"
+    return f"refused 6 at {count}" if without_levels(policy.records[:count]) else "accepted"
 
 
 def fields(session):
@@ -359,13 +357,20 @@ def replay(name, records, request, shown):
     return Case(LIST, name, policy, fresh(request), shown, replayed(policy, request, shown))
 
 
-def level_edges():
-    """The first and last atom of each level as heads, over those of the same level and of the levels beside it."""
+def by_eights():
+    """The first and last atom of each eight as heads, over those of the same eight and of those beside it: no number decides."""
     edges = [(8 * k, min(8 * k + 7, 62)) for k in range(8)] + [(63,)]
     for k in range(2, 9):
         beside = [atom for some in edges[k - 1 : k + 2] for atom in some]
         for head, word, atom in itertools.product(edges[k], ("if", "not"), beside):
             yield f"kind 1 head {head} {word} {atom}"
+
+
+def own_head():
+    """Every derived atom, if and if not itself; 63 stands in no body, so that no loop goes through it."""
+    for head in range(16, 63):
+        yield f"kind 1 head {head} not {head}"
+        yield f"kind 1 head {head} if {head}"
 
 
 def weight_edges():
@@ -379,7 +384,7 @@ def weight_edges():
 
 
 def one_record():
-    for name in dict.fromkeys([*re.findall("^kind.*", ONE_RECORD, re.M), *level_edges(), *weight_edges()]):
+    for name in dict.fromkeys([*re.findall("^kind.*", ONE_RECORD, re.M), *by_eights(), *own_head(), *weight_edges()]):
         kind, head = map(int, re.match(r"kind (\d+) head (\d+)", name).groups())
         positive, weighs, negated = (set(map(int, re.findall(rf"{word} (\d+)", name))) for word in ("if", "weight", "not"))
         yield test(name, 18, [(kind, head, positive.union(*map(atoms_of, weighs)), negated)])
@@ -456,7 +461,7 @@ def weights_in_turn():
     yield test("0 and 16 weigh 5", 36, [one, weight(16, 5)])
     yield test("16 and 0 weigh 5", 36, [weight(16, 5), one])
     yield test("0 weighs 5, 16 weighs 16", 36, [one, weight(16, 16)])
-    others = {3: (4, 0, set(), set()), 4: weight(16, 5), 5: access(16, 63), 6: access(16, 24), 12: weight(1, 16)}
+    others = {3: (4, 0, set(), set()), 4: weight(16, 5), 5: access(16, 63), 6: OWN_17, 12: weight(1, 16)}
     for broken, record in others.items():
         yield test(f"{broken} at record 1, 13 at record 2", 54, [one, record, one])
         yield test(f"13 at record 1, {broken} at record 2", 54, [one, one, record])
@@ -473,7 +478,7 @@ def weights_in_turn():
 
 
 def records_in_turn():
-    three, six = (4, 16, set(), set()), (1, 17, set(), {24})
+    three, six = (4, 16, set(), set()), OWN_17
     last = [ALWAYS_16] * 125 + [three, ALWAYS_16]
     yield test("3 at record 127", 2304, [ALWAYS_16, ALWAYS_16, *last])
     yield test("3 at records 1 and 127", 2304, [ALWAYS_16, three, *last])
@@ -489,6 +494,154 @@ def records_in_turn():
         yield test(f"{broken} at record 1, 54 bytes", 54, [ALWAYS_16, record, ALWAYS_16])
         yield test(f"{broken} at record 127, 2304 bytes", 2304, [ALWAYS_16] * 127 + [record])
         yield test(f"{broken} at record 128, 2322 bytes", 2322, [ALWAYS_16] * 128 + [record])
+
+
+# Levels: "Number 6 now says that no choice of a whole number as each atom's level" does.
+
+DERIVED = list(range(16, 63))
+LOOPS = (
+    *((17,), (16,), (62,), (16, 17), (17, 24), (24, 17), (16, 62), (62, 16), (23, 24)),
+    *((16, 17, 18), (16, 24, 40), (40, 24, 16), (24, 40, 16), (60, 61, 62), (62, 16, 39)),
+    *((16, 62, 17, 61), (20, 19, 18, 17, 16), tuple(range(16, 62, 5)), tuple(range(61, 15, -3))),
+    *(tuple(DERIVED), tuple(DERIVED[::-1]), tuple(16 + 20 * k % 47 for k in range(47))),
+)
+
+
+def loop(atoms, negated=()):
+    """Each atom if the next one, and the last if the first; those at some places if not."""
+    pairs = enumerate(zip(atoms, [*atoms[1:], atoms[0]]))
+    return [access(head, unless=[body]) if place in negated else access(head, body) for place, (head, body) in pairs]
+
+
+def named_loop(atoms):
+    return " ".join(map(str, atoms)) if len(atoms) < 6 else f"{len(atoms)} atoms from {atoms[0]} and {atoms[1]} on"
+
+
+def loops():
+    """Loops of every kind of numbering: positive ones are accepted, and so is one that lacks a rule; one "not" in a loop is too much."""
+    for atoms in LOOPS:
+        name, many = named_loop(atoms), len(atoms)
+        every = range(many)
+        yield test(f"loop {name}", 18 * many, loop(atoms))
+        yield test(f"loop {name}, the last rule first", 18 * many, loop(atoms)[::-1])
+        for place in sorted({0, many // 2, many - 1}):
+            yield test(f"loop {name}, not at {place}", 18 * many, loop(atoms, [place]))
+            yield test(f"loop {name}, not at {place}, the last rule first", 18 * many, loop(atoms, [place])[::-1])
+        yield test(f"loop {name}, all not", 18 * many, loop(atoms, every))
+        yield test(f"loop {name}, every second not", 18 * many, loop(atoms, every[::2]))
+        for place in sorted({0, many // 2, many - 1}):
+            less = [record for k, record in enumerate(loop(atoms, every)) if k != place]
+            yield test(f"loop {name}, all not, less rule {place}", 18 * len(less), less)
+            yield test(f"loop {name}, all not, 0 in the place of rule {place}", 18 * many, [*less, access(atoms[place], 0)])
+
+
+def tested_policy(name, *records):
+    return test(name, 18 * len(records), list(records))
+
+
+def not_in_loops():
+    """A "not" within a positive loop, into one, out of one, and between two."""
+    for atoms in ((16, 17, 18), (18, 17, 16), (16, 40, 24), (62, 16, 39), tuple(DERIVED), tuple(DERIVED[::-1])):
+        name, ring = named_loop(atoms), loop(atoms)
+        outside = [atom for atom in (16, 17, 30, 61, 62) if atom not in atoms[:3]][:1]
+        for head, body in itertools.product(atoms[:3], repeat=2):
+            yield tested_policy(f"loop {name}, {head} if not {body}", *ring, access(head, unless=[body]))
+            yield tested_policy(f"{head} if 0 and not {body}, loop {name}", access(head, 0, unless=[body]), *ring)
+        yield tested_policy(f"loop {name}, 63 if not {atoms[0]}", *ring, access(63, unless=[atoms[0]]))
+        yield tested_policy(f"loop {name}, {atoms[0]} if not 0", *ring, access(atoms[0], unless=[0]))
+        for other in outside if len(atoms) < 4 else ():
+            into, out = access(atoms[1], unless=[other]), access(other, unless=[atoms[2]])
+            yield tested_policy(f"loop {name}, {atoms[1]} if not {other}", *ring, into)
+            yield tested_policy(f"loop {name}, {other} if not {atoms[2]}", *ring, out)
+            yield tested_policy(f"loop {name}, both", *ring, into, out)
+            yield tested_policy(f"both, loop {name}", out, into, *ring)
+            yield tested_policy(f"loop {name}, {other} and back by one not", *ring, access(other, atoms[2]), into)
+    low, high = loop((40, 24)), loop((17, 61))
+    up, down = access(17, unless=[24]), access(40, unless=[61])
+    yield tested_policy("two loops, one over the other by not", *low, *high, up)
+    yield tested_policy("two loops, the other way round", *low, *high, down)
+    yield tested_policy("two loops, both by not", *low, up, *high, down)
+    yield tested_policy("two loops, one by not, back by a rule", *high, up, *low, access(40, 61))
+    yield tested_policy("two loops, both by a rule", *high, access(17, 24), *low, access(40, 61))
+
+
+def two_sided_loops():
+    """"An atom may stand on both sides of a body": such a rule never applies, and its levels are tested as any rule's are."""
+    for one, other in ((16, 17), (17, 16), (24, 16), (16, 62), (62, 16), (30, 31)):
+        both = access(one, other, unless=[other])
+        yield tested_policy(f"{one} if {other} and not {other}", both)
+        yield tested_policy(f"{one} if {other} and not {other}, {other} if {one}", both, access(other, one))
+        yield tested_policy(f"{one} if {other} and not {other}, {other} if not {one}", both, access(other, unless=[one]))
+        yield tested_policy(f"{one} if {other} and not {other}, {other} if {one} and not {one}", both, access(other, one, unless=[one]))
+        yield tested_policy(f"{other} if {one}, {one} if 0, {other} and not 0", access(other, one), access(one, 0, other, unless=[0]))
+        never = access(one, 0, unless=[0, other])
+        yield tested_policy(f"{one} if 0 and not 0, {other}", never)
+        yield tested_policy(f"{one} if 0 and not 0, {other}; {other} if {one}", never, access(other, one))
+        yield tested_policy(f"{one} if {one}, {other} and not {one}", access(one, one, other, unless=[one]))
+        yield tested_policy(f"{one} if 0, {other} and not {one}, {other}", access(one, 0, other, unless=[one, other]))
+
+
+def storeys(atoms, start=0):
+    """Each atom if not the one before, the first if not a credential; 63 if not the last."""
+    below = [start, *atoms]
+    return [access(head, unless=[body]) for body, head in zip(below, [*atoms, 63])]
+
+
+def levels_at_most():
+    """48 levels of "not", over all derived atoms; the highest is of 63, which stands in no body."""
+    for name, atoms in (("upwards", DERIVED), ("downwards", DERIVED[::-1]), ("mixed", [16 + 20 * k % 47 for k in range(47)])):
+        rules = storeys(atoms)
+        yield tested_policy(f"48 levels {name}", *rules)
+        yield tested_policy(f"48 levels {name}, the last rule first", *rules[::-1])
+        for head, body in ((0, 46), (0, 1), (23, 24), (45, 46), (22, 22)):
+            more = access(atoms[head], atoms[body])
+            yield tested_policy(f"48 levels {name}, {atoms[head]} if {atoms[body]}", *rules, more)
+            yield tested_policy(f"48 levels {name}, {atoms[head]} if {atoms[body]}, first", more, *rules)
+        yield tested_policy(f"48 levels {name}, 63 if all", *rules, access(63, *DERIVED))
+        wide = [access(head, unless=[0, *atoms[:place]]) for place, head in enumerate(atoms)]
+        yield tested_policy(f"each if none of those before, {name}", *wide)
+        yield tested_policy(f"each if none of those before, {name}, the first if the last", *wide, access(atoms[0], atoms[-1]))
+        yield tested_policy(f"each if all those before, {name}", *(access(head, *atoms[:place]) for place, head in enumerate(atoms)))
+
+
+def six_last():
+    """"is given exactly then, after all records passed the rest, with the count of records as its number"."""
+    seven, pair = access(16, 7), loop((24, 17), [0])
+    for count in (1, 2, 3, 9, 10, 64, 127, 128):
+        for place in sorted({0, count // 2, count - 1}):
+            records = [OWN_17 if k == place else seven for k in range(count)]
+            yield tested_policy(f"17 if not 17 at record {place} of {count}", *records)
+        if count > 1:
+            yield tested_policy(f"a loop of two, of {count} records", pair[0], *[seven] * (count - 2), pair[1])
+            yield tested_policy(f"half of it, of {count} records", pair[0], *[seven] * (count - 1))
+    others = always(3), weight(3, 2), (2, 4, {3}, set()), weight(15, 15)
+    for place in range(5):
+        yield tested_policy(f"17 if not 17 at record {place}, and four of other kinds", *others[:place], OWN_17, *others[place:])
+    faults = {3: (4, 16, set(), set()), 4: access(15), 5: access(16, 63), 12: weight(0, 16)}
+    second = weight(0, 5)
+    for broken, record in faults.items():
+        yield tested_policy(f"a loop of two around a {broken}", pair[0], record, pair[1])
+        yield tested_policy(f"a loop of two, then a {broken}", *pair, record)
+        yield tested_policy(f"a {broken}, then a loop of two", record, *pair)
+        yield tested_policy(f"128 records, 6 at 0, {broken} at 127", OWN_17, *[seven] * 126, record)
+        yield tested_policy(f"128 records, {broken} at 0, 6 at 127", record, *[seven] * 126, OWN_17)
+        yield tested_policy(f"17 if not 17, a {broken}, 17 if not 17", OWN_17, record, OWN_17)
+    yield tested_policy("a loop of two around a 13", second, pair[0], second, pair[1])
+    yield tested_policy("a loop of two, then a 13", *pair, second, second)
+    yield tested_policy("a 13, then a loop of two", second, second, *pair)
+    yield tested_policy("two weights around a loop of two", second, *pair, second)
+    for length in (19, 35, 37, 53):
+        yield test(f"a loop of two, {length} bytes", length, [*pair, ALWAYS_16])
+    for length in (2303, 2305, 2322):
+        yield test(f"17 if not 17 at record 0, {length} bytes", length, [OWN_17] + [seven] * 128)
+    yield test("a loop of two, cut by the length", 18, pair)
+    yield tested_policy("a body with what a rule may not have, and a loop", access(17, unless=[17, 63]), OWN_17)
+    yield tested_policy("63 if not 63, and 17 if not 17", access(63, unless=[63]), OWN_17)
+
+
+def levels():
+    for some in (loops, not_in_loops, two_sided_loops, levels_at_most, six_last):
+        yield from some()
 
 
 def under_a(name, session, shown):
@@ -575,7 +728,7 @@ def order():
     refused = (
         ("1 byte", one_byte),
         ("kind 4", whole([(4, 16, set(), set())])),
-        ("17 if not 24", whole([(1, 17, set(), {24})])),
+        ("17 if not 17", whole([OWN_17])),
         ("0 weighs 16", whole([weight(0, 16)])),
         ("0 weighs 1 twice", whole(weighed(0, 1, 1))),
     )
@@ -607,8 +760,8 @@ def sessions():
     yield under_a("16 twice over and a breach", waiting(2, 5, 0, 2), 2)
 
 
-def access(head, *body):
-    return 1, head, set(body), set()
+def access(head, *body, unless=()):
+    return 1, head, set(body), set(unless)
 
 
 def always(credential):
@@ -780,6 +933,82 @@ def weighted():
         yield from some()
 
 
+def chains_of_rules():
+    """Chains and "not" whose numbers rise, fall and jump; each a name, the atoms, the last of which is asked for."""
+    numbered = ("rising", (16, 24, 40, 62)), ("falling", (62, 40, 24, 16)), ("jumping", (40, 16, 62, 24)), ("of one eight", (20, 17, 23, 16))
+    for name, (first, second, third, last) in numbered:
+        both = always(0), always(1)
+        chain = [access(last, third), access(third, second), access(second, first), access(first, 0), *both]
+        yield from two(f"a chain, {name}", chain, last, 1)
+        yield from two(f"a chain, {name}, the first rule first", chain[3::-1] + chain[4:], last, 1)
+        nots = [access(last, unless=[third]), access(third, unless=[second]), access(second, unless=[first]), access(first, 0), *both]
+        for request in (first, second, third, last):
+            yield from two(f"a chain of not, {name}, request {request}", nots, request, 1)
+            yield from two(f"a chain of not, {name}, the first rule first, request {request}", nots[3::-1] + nots[4:], request, 3)
+        mixed = [access(last, 1, third), access(third, unless=[second]), access(second, first), access(first, unless=[0]), *both]
+        yield from declined_each(f"a chain with not, {name}", mixed, last, 3)
+        breach = [access(63, unless=[third]), access(third, second), access(second, first), access(first, 0), access(last), *both]
+        yield from two(f"a breach unless a chain, {name}", breach, last, 1)
+
+
+def loops_in_rounds():
+    """A positive loop holds nothing by itself; entered anywhere, it holds all of it."""
+    for atoms in ((17,), (17, 24), (24, 17), (16, 62, 39), (62, 39, 16), (40, 41, 42, 16)):
+        name, ring = named_loop(atoms), loop(atoms)
+        yield from two(f"loop {name}, nothing enters", [*ring, always(0)], atoms[0], 1)
+        for enters, request in sorted({(atoms[0], atoms[-1]), (atoms[-1], atoms[0]), (atoms[0], atoms[0])}):
+            yield from two(f"loop {name}, {enters} if 0, request {request}", [*ring, access(enters, 0), always(0)], request, 1)
+        above = [*ring, access(20, unless=[atoms[0]]), access(atoms[-1], 0), always(0)]
+        yield from two(f"loop {name}, 20 if not {atoms[0]}", above, 20, 1)
+        over = [*loop((61, 19)), access(19, 1, atoms[0]), *ring, access(atoms[-1], 0, unless=[2]), *map(always, range(3))]
+        yield from two(f"loop 61 19 over loop {name}", over, 61, 3)
+        yield from in_turn(over, 61, (f"loop 61 19 over loop {name}, 2 shown", 4))
+
+
+def deep_rounds():
+    """48 levels, and chains over all derived atoms."""
+    for name, atoms in (("upwards", DERIVED), ("downwards", DERIVED[::-1]), ("mixed", [16 + 20 * k % 47 for k in range(47)])):
+        rules = [*storeys(atoms)[:-1], always(0)]
+        for place in (0, 1, 22, 23, 45, 46):
+            yield from two(f"48 levels {name}, request {atoms[place]}", rules, atoms[place], 1)
+            yield from two(f"48 levels {name}, the last rule first, request {atoms[place]}", rules[::-1], atoms[place], 1)
+        breach = [*storeys(atoms), always(0), access(atoms[46], 1)]
+        yield from two(f"48 levels {name}, a breach", breach, atoms[46], 1)
+        chain = [access(head, body) for body, head in zip([0, *atoms], atoms)] + [always(0)]
+        yield from two(f"a chain of 47 {name}", chain, atoms[46], 1)
+        yield from two(f"a chain of 47 {name}, the last rule first", chain[::-1], atoms[46], 1)
+        yield from two(f"loop {named_loop(atoms)}", [*loop(atoms), access(atoms[20], 0), always(0)], atoms[21], 1)
+
+
+def two_sided_rounds():
+    """A rule that never applies, in loops and out of them."""
+    two_sided = [access(16, 24, unless=[24]), access(24, 0), always(0)]
+    yield from two("16 if 24 and not 24", two_sided, 16, 1)
+    yield from two("16 if 24 and not 24; if 1", [*two_sided, access(16, 1), always(1)], 16, 2)
+    never = [access(16, 17, 0, unless=[0]), access(17, 16), access(17, 1), always(0), always(1)]
+    yield from two("16 if 17, 0 and not 0; 17 if 16", never, 16, 3)
+    yield from two("16 if 17, 0 and not 0; 17 if 16; request 17", never, 17, 2)
+
+
+def renumbered():
+    """Document 01's case (f), and policy A with other atoms for 16 and 63's body."""
+    yield from two("(f) 17 if not 24", [access(17, unless=[24])], 17, 0)
+    yield from two("(f) 17 if not 24, request 24", [access(17, unless=[24])], 24, 0)
+    late = [access(17, unless=[24]), access(24, 0), always(0)]
+    yield from two("17 if not 24, 24 if 0", late, 17, 0)
+    yield from in_turn(late, 17, ("17 if not 24, 24 if 0, 0 shown", 1))
+    yield from two("17 if not 24, 24 if 0, request 24", late, 24, 1)
+    for service, role in ((16, 62), (62, 16), (30, 31), (31, 30)):
+        records = [access(service, role), access(role, 0, 1), access(service, 2, unless=[role]), access(63, 0, 2), *POLICY_A[3:]]
+        shown = enumerate((0, 0, 3))
+        yield from in_turn(records, service, *((f"policy A by way of {role}, request {service}, round {k + 1}", some) for k, some in shown))
+
+
+def numbered_freely():
+    for some in (renumbered, chains_of_rules, loops_in_rounds, deep_rounds, two_sided_rounds):
+        yield from some()
+
+
 def from_fresh():
     fifteen = access(16, 15)
     yield from two("16 if 15", [fifteen, always(15)], 16, 0x8000)
@@ -801,10 +1030,10 @@ def replays():
     for request in (0, 16, 17, 40, 61, 62, 63, 64, 80, 272, 65535):
         yield replay(f"list of none, request {request}", [], request, ())
         yield replay(f"list of 1, request {request}", [ALWAYS_16], request, (0,))
-    broken = [(1, 17, set(), {24})]
     for n in range(3):
-        yield replay(f"17 if not 24, list of {n or 'none'}", broken, 16, shown[:n])
-    yield replay("17 if not 24, request 15", broken, 15, shown[:2])
+        yield replay(f"17 if not 17, list of {n or 'none'}", [OWN_17], 16, shown[:n])
+        yield replay(f"17 if not 24, list of {n or 'none'}", [access(17, unless=[24])], 17, shown[:n])
+    yield replay("17 if not 17, request 15", [OWN_17], 15, shown[:2])
     heavier = [*THREE_WAYS, weight(2, 3), weight(3, 3)]
     for n in range(5):
         yield replay(f"2 and 3 weigh 3, list of {n or 'none'}", heavier, 16, (0,) * n)
@@ -817,11 +1046,12 @@ def replays():
 def cases():
     yield from policies()
     yield from records_in_turn()
-    for some in (second_weights, sixteen_weights, weights_in_turn):
+    for some in (second_weights, sixteen_weights, weights_in_turn, levels):
         yield from some()
     yield from sessions()
     yield from from_fresh()
     yield from weighted()
+    yield from numbered_freely()
     yield from replays()
 
 

@@ -104,9 +104,9 @@ def recorded_runs():
         "": (at_once, runs),
         ", a byte at a time": (byte_by_byte, chosen),
         ", record by record": (record_by_record, [name for name in chosen if not name.startswith("o")]),
-        ", input left open": (left_open, ("(f) 17 if not 24", "2305 bytes", "request 15 alone", "request 272, three records after it")),
-        ", output full": (unwritten, ("(a) the three rounds", "(f) 17 if not 24", "request 15 alone", "twenty records after deny")),
-        ", output not read": (unread, ("(a) the three rounds", "(f) 17 if not 24", "request 15 alone", "twenty records after deny")),
+        ", input left open": (left_open, ("17 if not 17", "2305 bytes", "request 15 alone", "request 272, three records after it")),
+        ", output full": (unwritten, ("(a) the three rounds", "17 if not 17", "request 15 alone", "twenty records after deny")),
+        ", output not read": (unread, ("(a) the three rounds", "17 if not 17", "request 15 alone", "twenty records after deny")),
     }
     for word, (way, names) in ways.items():
         for name in names:

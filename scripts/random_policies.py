@@ -1,4 +1,4 @@
-"""Small random policies that are accepted, from a fixed seed.
+"""Small random policies from a fixed seed: such as keep levels that are drawn beside them, and such as have none.
 
 A record is (kind, head, positive, negated), both sides as sorted tuples; a weight is its positive side's number.
 """
@@ -35,45 +35,57 @@ class Draw:
         return tuple(sorted(self.several(atoms, self.between(0, most))))
 
 
-def level(atom):
-    return 8 if atom == BREACH else atom // 8
+class Atoms:
+    """The few atoms that a policy speaks of: credentials, on level 0, and derived ones, each on a level of its own choice."""
+
+    def __init__(self, credentials, level):
+        self.credentials = sorted(credentials)
+        self.derived = list(level)
+        top = max(level.values()) + 1
+        self.level = {atom: 0 for atom in range(16)} | level | {BREACH: top}
+        self.all = sorted(self.credentials + self.derived)
+
+    def heads(self):
+        return self.derived + [BREACH]
+
+    def up_to(self, head):
+        """Those that a head's body may hold."""
+        return [atom for atom in self.all if self.level[atom] <= self.level[head]]
+
+    def below(self, head):
+        """Those that it may negate."""
+        return [atom for atom in self.all if self.level[atom] < self.level[head]]
 
 
 def universe(draw):
-    """The few atoms that a policy speaks of: credentials, and derived atoms on two to six levels."""
-    atoms = draw.several(range(16), draw.between(1, 5))
-    for each in draw.several(range(2, 8), draw.between(2, 6)):
-        atoms += draw.several(range(8 * each, min(8 * each + 8, BREACH)), draw.between(1, 4))
-    return sorted(atoms)
-
-
-def derived(atoms):
-    return [atom for atom in atoms if atom > 15]
+    """One to five credentials, and derived atoms on up to eight levels."""
+    credentials = draw.several(range(16), draw.between(1, 5))
+    levels = draw.between(1, 8)
+    return Atoms(credentials, {atom: draw.between(1, levels) for atom in draw.several(range(16, BREACH), draw.between(2, 14))})
 
 
 def access(draw, atoms, head=None, positive=(), negated=()):
     """An access rule that keeps the levels; what is given stands in it."""
     if head is None:
-        head = draw.one(derived(atoms) + [BREACH])
-    same_or_lower = [atom for atom in atoms if level(atom) <= level(head)]
-    lower = [atom for atom in atoms if level(atom) < level(head)]
+        head = draw.one(atoms.heads())
     # A rule of a chain or a loop gets little more, or it would hardly ever apply.
     more = draw.one((0, 0, 1)) if positive or negated else draw.between(1, 3)
-    positive = set(positive).union(draw.body(same_or_lower, more))
-    negated = set(negated).union(draw.body(lower, more))
+    positive = set(positive).union(draw.body(atoms.up_to(head), more))
+    negated = set(negated).union(draw.body(atoms.below(head), more))
     if negated and draw.chance(8):
         positive.add(draw.one(sorted(negated)))
     return ACCESS, head, tuple(sorted(positive)), tuple(sorted(negated))
 
 
 def disclosure(draw, atoms):
-    credentials = [atom for atom in atoms if atom < 16] + draw.several(range(16), 2)
+    credentials = atoms.credentials + draw.several(range(16), 2)
     return DISCLOSURE, draw.one(credentials), draw.body(sorted(set(credentials)), 2), ()
 
 
 def chain(draw, atoms):
     """An atom on each level, if not the one below."""
-    steps = [draw.one([atom for atom in atoms if level(atom) == each]) for each in sorted({level(atom) for atom in atoms})]
+    levels = sorted({atoms.level[atom] for atom in atoms.all})
+    steps = [draw.one([atom for atom in atoms.all if atoms.level[atom] == each]) for each in levels]
     if draw.chance(50):
         steps.append(BREACH)
     return [access(draw, atoms, high, negated=(low,)) for low, high in zip(steps, steps[1:]) if high > 15]
@@ -81,23 +93,22 @@ def chain(draw, atoms):
 
 def loop(draw, atoms):
     """Atoms of one level, each if the next; often with a way in."""
-    start = draw.one(derived(atoms))
-    ring = draw.several([atom for atom in derived(atoms) if level(atom) == level(start)], 4)
+    start = draw.one(atoms.derived)
+    ring = draw.several([atom for atom in atoms.derived if atoms.level[atom] == atoms.level[start]], 6)
     rules = [access(draw, atoms, high, positive=(low,)) for high, low in zip(ring, ring[1:] + ring[:1])]
     if draw.chance(60):
-        rules.append((ACCESS, draw.one(ring), draw.body([atom for atom in atoms if atom < 16], 1), ()))
+        rules.append((ACCESS, draw.one(ring), draw.body(atoms.credentials, 1), ()))
     return rules
 
 
 def wide(draw, atoms):
     """A rule with a long body: 3 to 8 credentials, now and then a derived atom, and up to 5 negated atoms."""
-    head = draw.one(derived(atoms) + [BREACH])
+    head = draw.one(atoms.heads())
     positive = draw.several(range(16), draw.between(3, 8))
     if draw.chance(25):
-        positive += draw.several([atom for atom in derived(atoms) if level(atom) <= level(head)], 1)
-    others = [atom for atom in sorted(set(atoms).union(range(16))) if atom not in positive]
-    negated = draw.several([atom for atom in others if level(atom) < level(head)], draw.between(0, 5))
-    return [(ACCESS, head, tuple(sorted(positive)), tuple(sorted(negated)))]
+        positive += draw.several([atom for atom in atoms.up_to(head) if atom > 15], 1)
+    others = [atom for atom in sorted(set(atoms.below(head)).union(range(16))) if atom not in positive]
+    return [(ACCESS, head, tuple(sorted(positive)), tuple(sorted(draw.several(others, draw.between(0, 5)))))]
 
 
 def ladder(draw, _atoms):
@@ -122,6 +133,7 @@ def policy_size(draw):
 
 
 def policy(draw):
+    """A policy that is accepted."""
     atoms = universe(draw)
     size = policy_size(draw)
     records = []
@@ -136,6 +148,45 @@ def policy(draw):
         else:
             records.append(access(draw, atoms))
     return mixed(draw, records)
+
+
+def tower(draw):
+    """A policy with up to 48 levels of "not", the atoms numbered upwards, downwards or in any order, and some rules within them."""
+    steps = draw.several(range(16, BREACH), draw.one((8, 20, 40, 47)))
+    steps = draw.one((steps, sorted(steps), sorted(steps, reverse=True))) + [BREACH]
+    start = draw.below(16)
+    records = [(ACCESS, high, (), (low,)) for low, high in zip([start, *steps], steps)]
+    for _ in range(draw.between(0, 12)):
+        at = draw.below(len(steps))
+        body = draw.several(steps[:at], draw.between(0, 2)) + draw.several(range(16), 1)
+        records.append((ACCESS, steps[at], tuple(sorted(body)), ()))
+    return mixed(draw, records)
+
+
+def closing(draw, size):
+    """Rules that make a loop of so many atoms, with "not" in one of them at least; now and then an atom on both sides."""
+    ring = draw.several(range(16, BREACH), size)
+    negated = {draw.below(size)}.union(place for place in range(size) if draw.chance(30))
+    rules = []
+    for place, (head, atom) in enumerate(zip(ring, ring[1:] + ring[:1])):
+        more = tuple(sorted({draw.below(16), atom} if place in negated and draw.chance(15) else draw.body(range(16), 1)))
+        rules.append((ACCESS, head, more, (atom,)) if place in negated else (ACCESS, head, tuple(sorted({*more, atom})), ()))
+    return rules
+
+
+def within(draw, size):
+    """A positive loop of so many atoms, and a rule for one of them if not another."""
+    ring = draw.several(range(16, BREACH), size)
+    rules = [(ACCESS, head, (atom,), ()) for head, atom in zip(ring, ring[1:] + ring[:1])]
+    head, atom = draw.one(ring), draw.one(ring)
+    return rules + [(ACCESS, head, draw.body(range(16), 1), (atom,))]
+
+
+def without_levels(draw):
+    """A policy that no levels keep."""
+    size = draw.one((1, 2, 2, 3, 3, 4, 6, 12, 30))
+    broken = within(draw, size) if draw.chance(35) else closing(draw, size)
+    return mixed(draw, policy(draw)[: draw.one((0, 3, 90))] + broken)
 
 
 def some_credentials(draw):
@@ -171,6 +222,14 @@ def weights(draw, credentials):
     numbers = draw.one(((0, 1, 2), (1, 2, 3), (2, 3), (2, 4, 6), (0, 15), range(16), range(16)))
     named = range(16) if draw.chance(10) else draw.several(credentials, draw.between(1, len(credentials)))
     return [weighs(credential, draw.one(numbers)) for credential in named]
+
+
+def kept_by_number(records):
+    """Whether the access rules keep the levels that document 01 gives to numbers."""
+    level = [atom // 8 for atom in range(BREACH)] + [8]
+    rules = [record for record in records if record[0] == ACCESS]
+    held = all(level[atom] <= level[head] for _, head, positive, _ in rules for atom in positive)
+    return held and all(level[atom] < level[head] for _, head, _, negated in rules for atom in negated)
 
 
 def word(atoms):

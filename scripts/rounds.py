@@ -1,4 +1,4 @@
-"""Document 01's records and sessions with document 02's weights (R-2), from their definitions and not from our code.
+"""Document 01's records and sessions with document 02's weights (R-2) and levels (R-4), from their definitions and not from our code.
 
 A policy is a list of records: kind, head, positive atoms, negated atoms.
 """
@@ -7,6 +7,7 @@ import itertools
 
 Session = collections.namedtuple("Session", "request shown declined count phase")
 EMPTY = frozenset()
+FEW = 10  # of so many heads all sets are tried
 POLICY_A = [
     (1, 16, {0, 1}, set()),
     (1, 16, {2}, {3}),
@@ -55,16 +56,37 @@ def least(start, rules):
         reached = more
 
 
-def model(policy, shown):
-    """The one stable set, found by trying them all."""
+def below(rules, atom):
+    """An atom and those that it depends on: from a head to the atoms of its rules' bodies, in any number of steps."""
+    reached = {atom}
+    while True:
+        more = reached.union(*(positive | negated for head, positive, negated in rules if head in reached))
+        if more == reached:
+            return reached
+        reached = more
+
+
+def without_levels(policy):
+    """Whether "no choice of a whole number as each atom's level" keeps the access rules: some negated atom depends on the rule's head."""
     rules = [record[1:] for record in policy if record[0] == 1]
-    stable = []
-    for some in subsets({head for head, _, _ in rules}):
-        tried = shown | some
-        if tried == least(shown, [(head, positive) for head, positive, negated in rules if not negated & tried]):
-            stable.append(tried)
-    (only,) = set(stable)
-    return only
+    reached = {atom: below(rules, atom) for _, _, negated in rules for atom in negated}
+    return any(head in reached[atom] for head, _, negated in rules for atom in negated)
+
+
+def is_stable(rules, shown, tried):
+    return tried == least(shown, [(head, positive) for head, positive, negated in rules if not negated & tried])
+
+
+def model(policy, shown):
+    """The one stable set: what is left of each reduct is the next one tried. Where the heads are few, all sets are tried as well."""
+    rules = [record[1:] for record in policy if record[0] == 1]
+    found = shown
+    while not is_stable(rules, shown, found):
+        found = least(shown, [(head, positive) for head, positive, negated in rules if not negated & found])
+    heads = {head for head, _, _ in rules}
+    if len(heads) <= FEW:
+        assert {found} == {shown | some for some in subsets(heads) if is_stable(rules, shown, shown | some)}
+    return found
 
 
 def unlocks(policy, shown, request):

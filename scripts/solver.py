@@ -96,3 +96,26 @@ def only_model(rules):
 def optima(rules, search):
     """All stable models that cost least, as numbers."""
     return from_both(all_optima, rules, search)
+
+
+# An atom's level is how many of the numbers from 1 on are not above it; more than there are atoms are never needed.
+LEVELS = """
+{ least(A, 1..n) : atom(A) }.
+:- least(A, L), L > 1, not least(A, L - 1).
+:- holds(H, A), least(A, L), not least(H, L).
+:- negates(H, A), least(A, L), L < n, not least(H, L + 1).
+:- negates(H, A), least(A, n).
+:- negates(H, A), not least(H, 1).
+"""
+
+
+def has_levels(records):
+    """Whether clingo finds levels: "each access head at least its positive atoms' level and more than its negated atoms' level"."""
+    rules = ground(records, 1, 0)
+    atoms = {atom for head, positive, negated in rules for atom in (head, *positive, *negated)}
+    facts = [f"atom({atom})." for atom in sorted(atoms)]
+    for head, positive, negated in rules:
+        facts += [f"holds({head},{atom})." for atom in positive] + [f"negates({head},{atom})." for atom in negated]
+    command = ["clingo", "--warn=none", "1", "--outf=2", "-c", f"n={len(atoms) + 1}"]
+    run = subprocess.run(command, input="\n".join(facts) + LEVELS, capture_output=True, text=True)
+    return json.loads(run.stdout)["Result"] == "SATISFIABLE"

@@ -18,7 +18,21 @@ import collections
 import struct
 import sys
 
-from random_policies import ACCESS, BREACH, DISCLOSURE, WEIGHT, Draw, access, encoded, level, mixed, policy, weighs, weights
+from random_policies import (
+    ACCESS,
+    BREACH,
+    DISCLOSURE,
+    WEIGHT,
+    Atoms,
+    Draw,
+    access,
+    encoded,
+    kept_by_number,
+    mixed,
+    policy,
+    weighs,
+    weights,
+)
 from solver import Search, ground, models, only_model, optima
 from stored import stored
 
@@ -51,8 +65,8 @@ def asking_policy(draw):
     """A policy with several ways to a service, some through roles below it, and now and then a breach; and the service."""
     credentials = sorted(draw.several(range(16), draw.between(5, 10)))
     request = draw.between(16, 62)
-    roles = [atom for atom in draw.several(range(16, 63), 2) if level(atom) <= level(request) and atom != request]
-    atoms = sorted({*credentials, *roles})
+    roles = [atom for atom in draw.several(range(16, 63), draw.between(0, 2)) if atom != request]
+    atoms = Atoms(credentials, {role: draw.between(1, 2) for role in roles} | {request: draw.between(2, 3)})
     records = [*disclosures(draw, credentials), *ways(draw, atoms, credentials, request, draw.between(2, 7))]
     for role in roles:
         records += ways(draw, atoms, credentials, role, draw.between(1, 3))
@@ -181,6 +195,7 @@ def shapes(vector, asked):
     yield "a question, no weights", bool(asked) and not named
     yield "a question of several credentials", bool(asked) and asked.bit_count() > 1
     yield "a question, something shown", bool(asked) and vector.shown != 0
+    yield "a question, levels by number broken", bool(asked) and not kept_by_number(vector.records)
     yield "sixteen weights", len(named) == 16
     yield "a weight of a credential that is not disclosable", any(not (vector.askable | vector.shown) >> head & 1 for head in named)
     yield "a weight before and after all rules", len(places) > 1 and places[0] == 0 and places[-1] == len(vector.records) - 1

@@ -8,27 +8,49 @@ Needs `clingo` and `clasp` (Debian's packages gringo and clasp; made with 5.4.1 
 each one the access rules, with the credentials as facts, are a ground program, and so are the disclosure rules. Two solvers list
 all stable models of it: clingo, whose grounder settles such programs, and clasp, which gets the rules as they stand. The script
 stops unless each finds just one and both find the same. The expected sets are the solvers': the script has no reading of the model
-of its own. It prints to standard error how many policies have each shape, and stops if one is rare. The last policies have weights among
-their records (document 02, R-2), which the solvers never get: they change no model.
+of its own. It prints to standard error how many policies have each shape, and stops if one is rare. Policies from 600 on have weights among
+their records (document 02, R-2), which the solvers never get: they change no model. Those from 660 on have many levels (R-4), and those
+from 720 on have none: there the solvers find no model of some, several of others and one of others still, and the policy is refused
+6 with the count of its records. Whether a policy has levels, clingo says too, in a program of its own that chooses them.
 
 stdin, for each vector: 2 bytes of credentials, little-endian; 1 byte, the number of records; 18 bytes for each record.
 stdout: a line for each vector, as the program `vectors` prints it.
 """
 import sys
 
-from random_policies import ACCESS, BREACH, DISCLOSURE, WEIGHT, Draw, credential_set, encoded, level, mixed, policy, weights
-from solver import ground, only_model
+from random_policies import (
+    ACCESS,
+    BREACH,
+    DISCLOSURE,
+    WEIGHT,
+    Draw,
+    credential_set,
+    encoded,
+    kept_by_number,
+    mixed,
+    policy,
+    tower,
+    weights,
+    without_levels,
+)
+from solver import ground, has_levels, models, only_model
 from stored import stored
 
 SEED = 1
 VECTORS = 600
-WITH_WEIGHTS = 60  # so many more
+WITH_WEIGHTS = VECTORS + 60
+DEEP = WITH_WEIGHTS + 60
+ALL = DEEP + 240
 LEAST = 5  # a shape that fewer vectors have is too rare to tell anything
 MOST_RECORDS = 127  # as many as the program has room for
 
 
 def some_records(draw, place):
-    """A policy, from 600 on with weights."""
+    """A policy: from 600 on with weights, from 660 on with many levels, from 720 on with none."""
+    if place >= DEEP:
+        return without_levels(draw)
+    if place >= WITH_WEIGHTS:
+        return tower(draw)
     records = policy(draw)
     if place < VECTORS:
         return records
@@ -44,6 +66,10 @@ def vector(records, credentials):
 
 def line(place, credentials, model, disclosable):
     return f"vector {place} credentials {credentials:04x} model {model:016x} disclosable {disclosable:04x}\n"
+
+
+def refused_line(place, credentials, records):
+    return f"vector {place} credentials {credentials:04x} refused 6 at {len(records)}\n"
 
 
 # The shapes, only to be counted.
@@ -94,7 +120,7 @@ def blocked(rule, model):
     return holds(positive, model) == list(positive) and holds(negated, model) != []
 
 
-def several_passes(rules, credentials, model, level_of):
+def several_passes(rules, credentials, model, together):
     """Whether some atom of the model waits, in each rule for it, for an atom of its level that only later rules bring."""
     ways = {}
     for place, rule in enumerate(rules):
@@ -102,10 +128,45 @@ def several_passes(rules, credentials, model, level_of):
             ways.setdefault(rule[1], []).append((place, rule[2]))
 
     def waits(head, place, positive):
-        others = [atom for atom in positive if not credentials >> atom & 1 and level_of(atom) == level_of(head)]
+        others = [atom for atom in positive if not credentials >> atom & 1 and together(atom, head)]
         return any(place < ways[atom][0][0] for atom in others)
 
     return any(all(waits(head, *way) for way in ways[head]) for head in ways if not credentials >> head & 1)
+
+
+def steps_to(rules, start, target):
+    """In how few steps an atom is come to from another, from heads to bodies; 99 where it is not."""
+    reached, steps = {start}, 0
+    while target not in reached:
+        more = reached.union(*((*positive, *negated) for _, head, positive, negated in rules if head in reached))
+        if more == reached:
+            return 99
+        reached, steps = more, steps + 1
+    return steps
+
+
+def refused_shapes(records, found):
+    """Of a policy without levels: its shortest loop with a "not", and how many stable models it has."""
+    rules = [record for record in records if record[0] == ACCESS]
+    pairs = stands_on(rules)
+    shortest = min(1 + steps_to(rules, atom, head) for _, head, _, negated in rules for atom in negated)
+    yield "refused", True
+    for size in (1, 2, 3):
+        yield f"refused, a loop of {size}", shortest == size
+    yield "refused, a loop of 4 to 9", 4 <= shortest < 10
+    yield "refused, a loop of 10 and more", shortest >= 10
+    inside = [(atom, head) in pairs for _, head, _, negated in rules for atom in negated]
+    yield "refused, a not within a positive loop", any(inside)
+    yield "refused, only a two-sided rule has the not", not nearest(rules)
+    yield "refused, no stable model", not found
+    yield "refused, just one", len(found) == 1
+    yield "refused, several", len(found) > 1
+
+
+def nearest(rules):
+    """The rules with a "not" in a loop, two-sided ones left out."""
+    plain = [rule for rule in rules if not set(rule[2]) & set(rule[3])]
+    return [rule for rule in plain for atom in rule[3] if steps_to(rules, atom, rule[1]) < 99]
 
 
 def shapes(records, credentials, model, disclosable):
@@ -135,10 +196,14 @@ def shapes(records, credentials, model, disclosable):
     yield "a positive loop of several atoms", any((a, b) in pairs and (b, a) in pairs for a in loops for b in loops if a < b)
     yield "a positive loop, an atom of it in the model", holds(loops, model) != []
     yield "a positive loop, an atom of it not in the model", holds(loops, model) != loops
-    for each in range(2, 9):
-        yield f"a head on level {each}", any(level(head) == each for _, head, _, _ in rules)
+    yield "a positive loop of 4 and more atoms", any(sum((a, b) in pairs and (b, a) in pairs for b in loops) > 3 for a in loops)
+    yield "20 and more nots one over the other", nots(rules) >= 20
+    yield "48 nots one over the other", nots(rules) >= 48
+    yield "levels by number kept", bool(rules) and kept_by_number(rules)
+    yield "levels by number broken", not kept_by_number(rules)
+    yield "a head negates a larger number", any(15 < head < atom for _, head, _, negated in rules for atom in negated)
     yield "atom 62", any(62 in (head, *positive, *negated) for _, head, positive, negated in rules)
-    yield "a level that takes a second pass in record order", several_passes(rules, credentials, model, level)
+    yield "a loop that takes a second pass in record order", several_passes(rules, credentials, model, lambda a, b: {(a, b), (b, a)} <= pairs)
     yield "63 in the model", bool(model >> BREACH)
     yield "a model larger than the credentials", model > credentials
     yield "an atom blocked by a negation", any(blocked(rule, model) for rule in rules)
@@ -146,23 +211,33 @@ def shapes(records, credentials, model, disclosable):
     yield "sixteen weights", len(named) == 16
     yield "a weight of a credential that is not disclosable", holds(named, disclosable) != named
     yield "a disclosable set larger than the credentials", disclosable > credentials
-    yield "a disclosable set that takes a second pass", several_passes(others, credentials, disclosable, lambda atom: 0)
+    yield "a disclosable set that takes a second pass", several_passes(others, credentials, disclosable, lambda a, b: True)
+
+
+def answered(place, records, credentials):
+    """The line of a vector, and its shapes."""
+    rules = ground(records, ACCESS, credentials)
+    if has_levels(records) != (place < DEEP):
+        sys.exit(f"vector {place} was to have levels, or none")
+    if place >= DEEP:
+        return refused_line(place, credentials, records), refused_shapes(records, models(rules))
+    model, disclosable = only_model(rules), only_model(ground(records, DISCLOSURE, credentials))
+    return line(place, credentials, model, disclosable), shapes(records, credentials, model, disclosable)
 
 
 def main():
     draw = Draw(SEED)
     given, expected, counts = b"", "", {}
-    for place in range(VECTORS + WITH_WEIGHTS):
+    for place in range(ALL):
         records = some_records(draw, place)
         credentials = credential_set(draw, records)
-        model = only_model(ground(records, ACCESS, credentials))
-        disclosable = only_model(ground(records, DISCLOSURE, credentials))
+        said, have = answered(place, records, credentials)
         given += vector(records, credentials)
-        expected += line(place, credentials, model, disclosable)
-        for shape, there in shapes(records, credentials, model, disclosable):
+        expected += said
+        for shape, there in have:
             counts[shape] = counts.get(shape, 0) + there
     for shape, count in counts.items():
-        print(f"{count:4} of {VECTORS + WITH_WEIGHTS}: {shape}", file=sys.stderr)
+        print(f"{count:4} of {ALL}: {shape}", file=sys.stderr)
         if count < LEAST:
             sys.exit(f"too few of them: {shape}")
     return stored((f"crates/vectors/{name}", made) for name, made in (("stdin", given), ("stdout", expected.encode())))

@@ -2,6 +2,7 @@
 
 use crate::bench_counts::BenchCounts;
 use crate::calls::{ending_of, refusal_of, Call, DENY, GRANT};
+use crate::level_counts::LevelCounts;
 use crate::log_counts::LogCounts;
 use crate::question_counts::QuestionCounts;
 use crate::weight_counts::WeightCounts;
@@ -50,7 +51,7 @@ pub const KINDS: [&str; 19] = [
     "round of a list, any client",
     "round of a list, cooperative client",
     "round of a list, policies changing",
-    "every length, head, body atom, weight, request; small sessions",
+    "every length, head, body atom, small loop, weight, request; small sessions",
 ];
 
 /// Replies of the policy's test, and of rounds, by refusal number; 0 is not refused.
@@ -84,6 +85,7 @@ pub struct Counts {
     pub all_stable_sets: u64,
     pub tuned: u64,
     pub weights: WeightCounts,
+    pub levels: LevelCounts,
     pub logs: LogCounts,
     pub bench: BenchCounts,
     pub weighted: WeightedCounts,
@@ -153,6 +155,7 @@ impl Counts {
         self.all_stable_sets += other.all_stable_sets;
         self.tuned += other.tuned;
         self.weights.add(&other.weights);
+        self.levels.add(&other.levels);
         self.logs.add(&other.logs);
         self.bench.add(&other.bench);
         self.weighted.add(&other.weighted);
@@ -184,6 +187,7 @@ impl Counts {
         need(self.licensed_at_bound_lacking, "bound 2 + u".to_string());
         missing.extend(self.questions.missing());
         missing.extend(self.weights.missing());
+        missing.extend(self.levels.missing());
         missing.extend(self.logs.missing());
         missing.extend(self.bench.missing());
         missing.extend(self.weighted.missing());
@@ -212,6 +216,7 @@ impl Counts {
         println!("  rounds ended in deny: {}", self.denies);
         self.questions.print();
         self.weights.print();
+        self.levels.print();
         self.print_lists();
         println!("\nsecond opinions on the plain version");
         println!("  by the definition: {}", self.definition);

@@ -1,5 +1,6 @@
 //! Damaged policies, and policies just at a boundary of the written form.
 
+use crate::leveling::{broken, scatter, tiny};
 use crate::plain::policy::{read, Record};
 use crate::policies::{accepted, access, disclosure, encode, weight};
 use crate::random::Random;
@@ -52,7 +53,7 @@ fn set_length(random: &mut Random, bytes: &mut Vec<u8>) {
     bytes.truncate(length);
 }
 
-/// A record with one fault, of number 3 to 6 or 12, as near to a right one as can be.
+/// A record with one fault, of number 3 to 5 or 12, or a rule that no levels keep, as near to a right one as can be.
 fn faulty(random: &mut Random) -> Record {
     let right = access(24, 0x0100_0000, 0x0080_0000);
     match random.below(16) {
@@ -67,11 +68,11 @@ fn faulty(random: &mut Random) -> Record {
             negative: 1 << random.below(64),
             ..disclosure(3, 0)
         },
-        8 => access(23, 1 << 24, 0),
-        9 => access(24, 0, 1 << 24),
-        10 => access(55, 1 << 56, 0),
-        11..=14 => weighing::faulty(random),
-        _ => access(62, 0, 1 << 56),
+        8 => access(24, 0, 1 << 24),
+        9 => access(62, 1 << 62, 1 << 62),
+        10..=13 => weighing::faulty(random),
+        14 => access(16, 0, 1 << 16 | 1 << 63),
+        _ => access(17, 1, 1 << 17),
     }
 }
 
@@ -81,21 +82,77 @@ fn insert_faulty(random: &mut Random, bytes: &mut Vec<u8>) {
     bytes.splice(at..at, encode(&[record]));
 }
 
-/// A second weight, if there is a whole policy to put it in.
-fn insert_again(random: &mut Random, bytes: &mut Vec<u8>) {
+/// Changes the records, if they are whole.
+fn change_records(bytes: &mut Vec<u8>, change: impl FnOnce(&mut Vec<Record>)) {
     if bytes.len().is_multiple_of(18) {
         let mut records: Vec<Record> = bytes.chunks(18).map(read).collect();
-        insert_second(random, &mut records);
+        change(&mut records);
         *bytes = encode(&records);
     }
 }
 
-/// One bit more in a body, at any level.
+/// A second weight.
+fn insert_again(random: &mut Random, bytes: &mut Vec<u8>) {
+    change_records(bytes, |records| insert_second(random, records));
+}
+
+/// Rules that no levels keep.
+fn insert_broken(random: &mut Random, bytes: &mut Vec<u8>) {
+    change_records(bytes, |records| {
+        let rules = broken(random);
+        scatter(random, records, rules);
+    });
+}
+
+/// Rules that no levels keep, and besides them one other fault, of any number, before them, after them or among them.
+fn beside_broken(random: &mut Random) -> Vec<u8> {
+    let mut records = accepted(random);
+    records.truncate(random.pick(&[0, 1, 3, 60]));
+    let rules = broken(random);
+    scatter(random, &mut records, rules);
+    let small = random.below(16) as u8;
+    match random.below(8) {
+        0 => scatter(random, &mut records, vec![access(24, 1, 1 << 63)]),
+        1 => scatter(random, &mut records, vec![disclosure(small, 1 << 16)]),
+        2 => scatter(random, &mut records, vec![access(small, 0, 0)]),
+        3 => scatter(random, &mut records, vec![weight(small, 16)]),
+        4 | 5 => insert_second(random, &mut records),
+        6 => {
+            let kind = random.pick(&[0, 4, 255]);
+            let record = Record {
+                kind,
+                ..access(24, 1, 0)
+            };
+            scatter(random, &mut records, vec![record]);
+        }
+        _ => {
+            let mut bytes = encode(&records);
+            set_length(random, &mut bytes);
+            return bytes;
+        }
+    }
+    encode(&records)
+}
+
+/// One bit more in a body.
 fn add_atom(random: &mut Random, bytes: &mut [u8]) {
     let records = bytes.len() / 18;
     if records > 0 {
         bytes[18 * random.below(records) + random.range(2, 17)] |= 1 << random.below(8);
     }
+}
+
+/// 128 records, among them rules that no levels keep: at the end, at the beginning or anywhere.
+fn full_broken(random: &mut Random) -> Vec<u8> {
+    let mut records = broken(random);
+    let rest = 128 - records.len();
+    let others = vec![access(16, 1, 2); rest];
+    match random.below(3) {
+        0 => records.extend(others),
+        1 => records = [others, records].concat(),
+        _ => scatter(random, &mut records, others),
+    }
+    encode(&records)
 }
 
 /// Random records whose kinds and heads are mostly right, so that the tests after them are reached.
@@ -145,30 +202,37 @@ pub fn damaged(random: &mut Random) -> Vec<u8> {
     match random.below(10) {
         0 => return random_bytes(random),
         1 | 2 => return nearly_random(random),
+        3 if random.one_in(8) => return full_broken(random),
+        3 => return beside_broken(random),
         _ => {}
     }
     let mut bytes = encode(&accepted(random));
     for _ in 0..random.pick(&[1, 1, 1, 2, 3, 4]) {
-        match random.below(9) {
+        match random.below(12) {
             0 => flip_bit(random, &mut bytes),
             1 => change_byte(random, &mut bytes),
             2 => change_front(random, &mut bytes),
             3 => set_length(random, &mut bytes),
             4 | 5 => add_atom(random, &mut bytes),
-            6 => insert_again(random, &mut bytes),
+            6 | 7 => insert_again(random, &mut bytes),
+            8 | 9 => insert_broken(random, &mut bytes),
             _ => insert_faulty(random, &mut bytes),
         }
     }
     bytes
 }
 
-/// One record at a boundary: head, one positive and one negated atom at the edges of levels, alone or after others.
+/// One record at a boundary: head, one positive and one negated atom at the edges of what is allowed, alone or after others; or a
+/// few rules over few atoms.
 pub fn boundary(random: &mut Random) -> Vec<u8> {
     let edges = [
         0, 14, 15, 16, 17, 22, 23, 24, 25, 54, 55, 56, 57, 61, 62, 63,
     ];
     if random.one_in(4) {
         return encode(&weighing::edges(random));
+    }
+    if random.one_in(3) {
+        return encode(&tiny(random));
     }
     let mut records = Vec::new();
     for _ in 0..random.pick(&[1, 1, 1, 2, 3]) {

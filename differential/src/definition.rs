@@ -1,9 +1,9 @@
-//! Document 01 and document 02's weights once more, read as they stand: nothing is computed cleverly, sets are looked for among
-//! all sets. It is a second opinion on the plain version, on cases small enough for it.
+//! Document 01 and document 02's weights and levels once more, read as they stand: nothing is computed cleverly, sets are
+//! looked for among all sets. It is a second opinion on the plain version, on cases small enough for it.
 
 use crate::calls::{Call, Memory, Version};
 use crate::plain::interface::{decode, encode, ending_reply, refusal_reply};
-use crate::plain::policy::{level, Policy, Record, Refusal};
+use crate::plain::policy::{Policy, Record, Refusal};
 use crate::plain::session::{Ending, Phase, Session, Verdict};
 
 /// "For a candidate set M, strike each rule that negates an atom of M, then drop the negated parts of the others."
@@ -32,6 +32,31 @@ fn least_closed(rules: &[Record], c: u64) -> u64 {
 /// "M is stable if it equals the least set that holds C and is closed under what remains"
 pub fn stable(rules: &[Record], c: u16, m: u64) -> bool {
     m == least_closed(&reduct(rules, m), u64::from(c))
+}
+
+/// "gives each access head at least its positive atoms' level and more than its negated atoms' level"
+fn keeps(levels: &[u8; 64], rule: &Record) -> bool {
+    let head = levels[usize::from(rule.head)];
+    (0..64).all(|atom| {
+        let held = rule.positive >> atom & 1 == 0 || levels[atom] <= head;
+        let negated = rule.negative >> atom & 1 == 0 || levels[atom] < head;
+        held && negated
+    })
+}
+
+/// Whether there is "a whole number as each atom's level" such that all rules are kept: from 0 on, a head that is too low is
+/// raised by one. None is raised above what any choice gives it, and no choice needs a level above the number of heads.
+fn levelled(rules: &[Record]) -> bool {
+    let mut levels = [0; 64];
+    let most = heads(rules).count_ones() as u8;
+    while let Some(rule) = rules.iter().find(|rule| !keeps(&levels, rule)) {
+        let level = &mut levels[usize::from(rule.head)];
+        *level += 1;
+        if *level > most {
+            return false;
+        }
+    }
+    true
 }
 
 /// A stable set, come upon by taking the least closed set of each reduct as the next candidate; levels are not looked at.
@@ -115,10 +140,9 @@ fn weight_applies(number: u8, record: &Record, before: &[Record]) -> bool {
     }
 }
 
-/// Whether a refusal from 3 to 6, 12 or 13 applies to a record, whatever others do.
+/// Whether a refusal from 3 to 5, 12 or 13 applies to a record, whatever others do.
 fn applies(number: u8, record: &Record, before: &[Record]) -> bool {
     let access = record.kind == 1;
-    let above = |least: u8| (0..63).filter(move |atom| level(*atom) >= least);
     match number {
         3 => record.kind == 0 || record.kind > 3,
         4 if access => record.head < 16 || record.head > 63,
@@ -126,11 +150,6 @@ fn applies(number: u8, record: &Record, before: &[Record]) -> bool {
         _ if record.kind == 3 => weight_applies(number, record, before),
         5 if access => atom_in(record.positive, 63, 63) || atom_in(record.negative, 63, 63),
         5 => atom_in(record.positive, 16, 63) || atom_in(record.negative, 0, 63),
-        6 if access => {
-            let head = level(record.head);
-            above(head + 1).any(|atom| record.positive >> atom & 1 == 1)
-                || above(head).any(|atom| record.negative >> atom & 1 == 1)
-        }
         _ => false,
     }
 }
@@ -150,7 +169,7 @@ fn read(bytes: &[u8]) -> Record {
     }
 }
 
-/// Every fault of every record, and of them the first by record and number.
+/// Every fault of every record, and of them the first by record and number; where there is none, 6.
 fn check(policy: &[u8]) -> Result<Policy, Refusal> {
     if policy.len() >= 2305 {
         return Err(Refusal::by_writer(1, 128));
@@ -162,19 +181,25 @@ fn check(policy: &[u8]) -> Result<Policy, Refusal> {
     let records: Vec<Record> = (0..whole).map(|k| read(&policy[18 * k..])).collect();
     let before = |k: usize| &records[..k];
     let faults = records.iter().enumerate().flat_map(|(k, record)| {
-        [3, 4, 5, 6, 12, 13]
+        [3, 4, 5, 12, 13]
             .into_iter()
             .filter(move |number| applies(*number, record, before(k)))
             .map(move |number| (k, number))
     });
-    match faults.min() {
-        Some((k, number)) => Err(Refusal::by_writer(number, k)),
-        None => Ok(Policy {
-            access: records.iter().filter(|r| r.kind == 1).copied().collect(),
-            disclosure: records.iter().filter(|r| r.kind == 2).copied().collect(),
-            weights: records.iter().filter(|r| r.kind == 3).copied().collect(),
-        }),
+    if let Some((k, number)) = faults.min() {
+        return Err(Refusal::by_writer(number, k));
     }
+    let of_kind = |kind: u8| records.iter().filter(move |r| r.kind == kind).copied();
+    let access: Vec<Record> = of_kind(1).collect();
+    if !levelled(&access) {
+        return Err(Refusal::by_writer(6, whole));
+    }
+    Ok(Policy {
+        access,
+        levels: Vec::new(),
+        disclosure: of_kind(2).collect(),
+        weights: of_kind(3).collect(),
+    })
 }
 
 /// "A session is sound if ..", as a list of what must hold.

@@ -33,7 +33,7 @@ fn between(least: u16, most: u16) -> impl Iterator<Item = u16> {
 /// is tried: where a smaller one has the property, so has it.
 pub fn licensed(policy: &Policy, request: u16, holding: u16, first: u16) -> bool {
     let largest = disclosable(&policy.disclosure, first) & holding;
-    between(largest, holding).all(|set| unlocks(&policy.access, request, set))
+    between(largest, holding).all(|set| unlocks(&policy.levels, request, set))
 }
 
 impl Played<'_> {

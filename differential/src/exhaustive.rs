@@ -1,8 +1,10 @@
-//! Cases that are not random, or not all of it: every length, every head with every single body atom, every weight, every
-//! request, small sessions, small logs, every size of a question.
+//! Cases that are not random, or not all of it: every length, every head with every single body atom, every two rules and every
+//! three atoms that stand in each other's bodies, every weight, every request, small sessions, small logs, every size of a
+//! question.
 
 use crate::calls::Call;
 use crate::counts::Kind;
+use crate::leveling::ring;
 use crate::logs::every_log;
 use crate::marked::policy_a;
 use crate::plain::policy::Record;
@@ -52,6 +54,66 @@ fn bodies(tester: &mut Tester) {
                 ..disclosure(head, 0)
             };
             check(tester, encode(&[negated]));
+        }
+    }
+}
+
+/// Every two derived atoms in each other's bodies, and one in the other's and its own.
+fn two_rules(tester: &mut Tester) {
+    for (one, other) in (16..63).flat_map(|one| (16..63).map(move |other| (one, other))) {
+        let (held, not) = (access(one, 1 << other, 0), access(one, 0, 1 << other));
+        let back = access(other, 1 << one, 0);
+        let two_sided = access(one, 1 << other, 1 << other);
+        for rules in [[held, back], [not, back], [back, not], [two_sided, back]] {
+            check(tester, encode(&rules));
+        }
+        check(tester, encode(&[not, access(other, 0, 1 << one)]));
+        check(tester, encode(&[two_sided]));
+    }
+}
+
+/// Three atoms, each with each one, and itself, in its bodies: as what must hold, as what must not, or not at all.
+fn three_atoms(tester: &mut Tester) {
+    let atoms = [24u8, 16, 62];
+    for choice in 0..3u32.pow(9) {
+        let rule = |k: usize| {
+            let (head, body) = (atoms[k / 3], 1 << atoms[k % 3]);
+            match choice / 3u32.pow(k as u32) % 3 {
+                0 => None,
+                1 => Some(access(head, body, 0)),
+                _ => Some(access(head, 0, body)),
+            }
+        };
+        let rules: Vec<Record> = (0..9).filter_map(rule).collect();
+        check(tester, encode(&rules));
+    }
+}
+
+/// Loops of every size, upwards and downwards, positive and with one "not" at either end, alone and with 63 above it.
+fn loops(tester: &mut Tester) {
+    let all: Vec<u8> = (16..63).collect();
+    for size in 1..=47 {
+        let up = &all[47 - size..];
+        let down: Vec<u8> = up.iter().rev().copied().collect();
+        for atoms in [up, &down] {
+            for negated in [0, 1, 1 << (size - 1), !0] {
+                let rules = ring(atoms, negated);
+                check(tester, encode(&rules));
+                check(tester, encode(&rules[1..]));
+                let above = [rules, vec![access(63, 0, 1 << 62)]].concat();
+                check(tester, encode(&above));
+            }
+        }
+    }
+}
+
+/// A rule that no levels keep at every place among 128 records and fewer.
+fn sixes(tester: &mut Tester) {
+    for place in 0..128 {
+        for count in [place + 1, 128] {
+            let mut records = vec![access(16, 1, 2); count];
+            records[place] = access(17, 0, 1 << 17);
+            check(tester, encode(&records));
         }
     }
 }
@@ -142,6 +204,10 @@ pub fn exhaustive(tester: &mut Tester) {
     lengths(tester);
     heads(tester);
     bodies(tester);
+    two_rules(tester);
+    three_atoms(tester);
+    loops(tester);
+    sixes(tester);
     weight_bits(tester);
     weights(tester);
     two_weights(tester);

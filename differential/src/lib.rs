@@ -11,6 +11,8 @@ pub mod definition;
 pub mod demands;
 pub mod exhaustive;
 pub mod gate;
+pub mod level_counts;
+pub mod leveling;
 pub mod log_counts;
 pub mod logs;
 pub mod marked;

@@ -1,6 +1,8 @@
-//! Document 01's own examples ("Marked for proof, and others"), and some of weights: what is said of each, of any version.
+//! Document 01's own examples ("Marked for proof, and others"), and some of weights and levels: what is said of each, of any
+//! version.
 
 use crate::calls::{asked_of, ending_of, refusal_of, Call, Memory, Version, ASK, DENY, GRANT};
+use crate::leveling::ring;
 use crate::plain::policy::Record;
 use crate::policies::{access, disclosure, encode, weight};
 
@@ -110,7 +112,55 @@ fn weighed_examples(v: &mut dyn Version) -> Vec<(&'static str, bool)> {
 pub fn marked(v: &mut dyn Version) -> Vec<(&'static str, bool)> {
     let mut all = written_examples(v);
     all.extend(weighed_examples(v));
+    all.extend(levelled_examples(v));
     all
+}
+
+/// Examples of levels: which policies are refused 6, with the count of records.
+fn levelled_examples(v: &mut dyn Version) -> Vec<(&'static str, bool)> {
+    let (own, always) = (access(17, 0, 1 << 17), access(16, 0, 0));
+    let all: Vec<u8> = (16..=62).collect();
+    let full = [one(always).repeat(127), one(own)].concat();
+    let inside = [ring(&all, 0), vec![access(20, 0, 1 << 50)]].concat();
+    let policies = [
+        ("17 if not 17", one(own), 6 | 1 << 8),
+        (
+            "17 if not 17, of three records",
+            encode(&[own, always, always]),
+            6 | 3 << 8,
+        ),
+        ("17 if not 17, of 128 records", full, 6 | 128 << 8),
+        (
+            "17 if not 17, and a weight 16",
+            encode(&[own, weight(0, 16)]),
+            12 | 1 << 8,
+        ),
+        ("a loop of two", encode(&ring(&[17, 24], 1)), 6 | 2 << 8),
+        (
+            "a loop of three",
+            encode(&ring(&[40, 17, 24], 4)),
+            6 | 3 << 8,
+        ),
+        ("a loop of 47", encode(&ring(&all, 1 << 46)), 6 | 47 << 8),
+        ("a positive loop", encode(&ring(&all, 0)), 0),
+        ("a not inside it", encode(&inside), 6 | 48 << 8),
+    ];
+    let tested = policies.map(|(name, policy, wanted)| (name, check(v, &policy) == wanted));
+    [&tested[..], &levelled_models(v)].concat()
+}
+
+/// And models of policies that levels by number would refuse.
+fn levelled_models(v: &mut dyn Version) -> [(&'static str, bool); 2] {
+    let falling: Vec<u8> = (16..=62).rev().collect();
+    let late = one(access(17, 0, 1 << 24));
+    let nots = encode(&ring(&falling, !0)[1..]);
+    [
+        ("(f), the model", model(v, &late, 0) == 1 << 17),
+        (
+            "46 not, the model",
+            model(v, &nots, 0) == 0x1555_5555_5555_0000,
+        ),
+    ]
 }
 
 /// Document 01's.
@@ -137,7 +187,7 @@ fn written_examples(v: &mut dyn Version) -> Vec<(&'static str, bool)> {
         ("(d), the model", model(v, &a, 0b101) >> 63 == 1),
         ("(d), no grant", session(v, &a, 16, &[0b101]) == "deny"),
         ("(e)", model(v, &a, 0b1100) >> 16 & 1 == 0),
-        ("(f)", check(v, &one(access(17, 0, 1 << 24))) == 6),
+        ("(f)", check(v, &one(access(17, 0, 1 << 24))) == 0),
         ("(g)", check(v, &one(access(24, 0, 1 << 23))) == 0),
         ("(h)", check(v, &one(access(16, 1 << 23, 0))) == 0),
         ("(i)", check(v, &one(access(63, 0, 1 << 62))) == 0),

@@ -1,6 +1,7 @@
-//! Random policies of the written form, of many shapes.
+//! Random policies of the written form, of many shapes. Those of this file keep levels by number, and are then numbered anew.
 
-use crate::plain::policy::{level, Record, ACCESS, DISCLOSURE, WEIGHT};
+use crate::leveling::{self, by_number as level, renumber};
+use crate::plain::policy::{Record, ACCESS, DISCLOSURE, WEIGHT};
 use crate::random::Random;
 use crate::weighing::weigh;
 
@@ -49,7 +50,7 @@ struct Pool {
 }
 
 /// So many different numbers of a range, in random order.
-fn some(random: &mut Random, count: usize, first: u8, last: u8) -> Vec<u8> {
+pub(crate) fn some(random: &mut Random, count: usize, first: u8, last: u8) -> Vec<u8> {
     let mut all: Vec<u8> = (first..=last).collect();
     random.shuffle(&mut all);
     all.truncate(count);
@@ -57,7 +58,7 @@ fn some(random: &mut Random, count: usize, first: u8, last: u8) -> Vec<u8> {
 }
 
 /// How many credentials a policy speaks of: mostly few, for a round tries the subsets of those that may be asked.
-fn credential_count(random: &mut Random) -> usize {
+pub(crate) fn credential_count(random: &mut Random) -> usize {
     match random.below(1000) {
         0..=549 => random.range(1, 5),
         550..=879 => random.range(5, 8),
@@ -76,7 +77,7 @@ fn pool(random: &mut Random, most_derived: usize) -> Pool {
 }
 
 /// A set of so many atoms of those allowed.
-fn draw(random: &mut Random, from: &[u8], count: usize) -> u64 {
+pub(crate) fn draw(random: &mut Random, from: &[u8], count: usize) -> u64 {
     if from.is_empty() {
         return 0;
     }
@@ -114,7 +115,7 @@ fn rule(random: &mut Random, pool: &Pool, head: u8) -> Record {
 }
 
 /// Disclosure rules for credentials: all always, a chain, random bodies, or only some of them.
-fn disclosures(random: &mut Random, credentials: &[u8]) -> Vec<Record> {
+pub(crate) fn disclosures(random: &mut Random, credentials: &[u8]) -> Vec<Record> {
     let style = random.below(5);
     let mut rules = Vec::new();
     for (place, head) in credentials.iter().enumerate() {
@@ -326,7 +327,7 @@ fn fill(random: &mut Random, records: &mut Vec<Record>) {
 
 /// A policy of the written form.
 pub fn accepted(random: &mut Random) -> Vec<Record> {
-    let mut records = match random.below(100) {
+    let mut records = match random.below(120) {
         0..=1 => Vec::new(),
         2..=21 => random_rules(random, 6, 10),
         22..=29 => random_rules(random, 20, 40),
@@ -337,6 +338,10 @@ pub fn accepted(random: &mut Random) -> Vec<Record> {
         77..=84 => edges(random),
         85..=90 => singles(random),
         91..=95 => wide(random),
+        96..=105 => leveling::loops(random),
+        106..=109 => leveling::tower(random),
+        110..=112 => leveling::chain(random),
+        113..=115 => leveling::dense(random),
         _ => {
             let mut records = alternatives(random);
             fill(random, &mut records);
@@ -346,6 +351,7 @@ pub fn accepted(random: &mut Random) -> Vec<Record> {
     decorate(random, &mut records);
     weigh(random, &mut records);
     records.truncate(128);
+    renumber(random, &mut records);
     records
 }
 
@@ -355,10 +361,13 @@ pub fn talkative(random: &mut Random) -> Vec<Record> {
         0..=4 => alternatives(random),
         5 | 6 => singles(random),
         7 => wide(random),
+        8 => leveling::loops(random),
         _ => random_rules(random, 3, 16),
     };
     decorate(random, &mut records);
     weigh(random, &mut records);
+    records.truncate(128);
+    renumber(random, &mut records);
     records
 }
 
@@ -387,6 +396,7 @@ pub fn licensed(random: &mut Random) -> (Vec<Record>, u16) {
     }
     random.shuffle(&mut records);
     weigh(random, &mut records);
+    renumber(random, &mut records);
     let extra = random.part(
         lacked[askable..]
             .iter()

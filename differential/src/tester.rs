@@ -133,7 +133,7 @@ impl<'a> Tester<'a> {
         let (reply, memory, kept) = self.ask_subject(call, before);
         let (wanted, wanted_memory) = self.ask_oracle(call, before);
         self.counts.case(kind, call, wanted);
-        self.count_weights(call, wanted);
+        self.count_policy(call, wanted);
         self.count_question(call, wanted, wanted_memory);
         if self.counts.cases().is_multiple_of(64) {
             self.shared.cases.fetch_add(64, Ordering::Relaxed);
@@ -160,11 +160,12 @@ impl<'a> Tester<'a> {
         Some((reply, after))
     }
 
-    /// Counts the policy's weights by the reply of its test.
-    fn count_weights(&mut self, call: Call, reply: u32) {
+    /// Counts the policy's weights and levels by the reply of its test.
+    fn count_policy(&mut self, call: Call, reply: u32) {
         if call == Call::Check {
             let rules = self.rules.as_ref();
             self.counts.weights.policy(&self.policy, rules, reply);
+            self.counts.levels.policy(&self.policy, rules, reply);
         }
     }
 

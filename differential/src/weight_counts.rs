@@ -90,10 +90,10 @@ fn unlocking(policy: &[u8], session: &Session, may_ask: u16) -> Vec<u16> {
     let Ok(accepted) = check(policy) else {
         return Vec::new();
     };
-    let access = Access::new(accepted.records);
-    let levels = access.levels();
+    let access = Access::new(&accepted);
+    let opening = access.opening(session.request);
     let mut sets = by_preference(&[1; 16], may_ask);
-    sets.retain(|set| levels.unlocks(session.request, session.shown | set));
+    sets.retain(|set| opening.unlocks(session.shown | set));
     sets
 }
 

@@ -11,7 +11,7 @@ use native.Mathlib.Omega.{arith}
 use Rattle.atoms.specs.Sets.{disjoint, subset, union}
 use Rattle.rules.specs.LevelByLevel.{levelByLevel, passOver, settle}
 use Rattle.rules.specs.Rules.{Rule}
-use Rattle.rules.proofs.LoopLaws.{levels-next, levels-none, pass-next, pass-none, pass-one}
+use Rattle.rules.proofs.LoopLaws.{levels-next, pass-next, pass-none, pass-one}
 use Rattle.arrays.specs.Arrays.{OneAtom, atomOf, levelsIn, ruleAt, rulesIn}
 
 -- arrays that agree at n places from k on hold the same rules there
@@ -122,9 +122,3 @@ module _ (levels : ℕ) (heads positive negated starts : List ℕ) (l : ℕ) whe
       first =
           let m : levels - l ≡ suc (levels - (l + 1)) = omega arith in
           ap (levelsIn heads positive negated starts l) m ∙ rw (add-one l)
-
-  pub levels-done-at : levels ≤ l → (S E : ℕ) → levelByLevel (levelsIn heads positive negated starts l (levels - l)) S ≡ E → S ≡ E
-  unfolding levelsIn
-  levels-done-at i S E e =
-      let m : levels - l ≡ 0 = omega arith in
-      sym (ap (λ (n : ℕ). levelByLevel (levelsIn heads positive negated starts l n) S) m ∙ levels-none S) ∙ e

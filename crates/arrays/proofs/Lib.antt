@@ -2,6 +2,7 @@
 pub mod HeadLaws
 pub mod ArrayLaws
 pub mod StartLaws
+pub mod EndLaws
 pub mod CountLaws
 pub mod LayoutLaws
 pub mod ModelLaws

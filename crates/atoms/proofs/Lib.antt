@@ -1,5 +1,6 @@
--- The laws of maps, of sets as numbers, and of sizes.
+-- The laws of maps, of sets as numbers, of sizes, and of the lowest atom of a set.
 pub mod MapLaws
 pub mod SetLaws
 pub mod SizeLaws
+pub mod LowestLaws
 pub mod MeaningProof

@@ -13,6 +13,7 @@ use native.Mathlib.Nat.{div-eq-of-lt, div-one, le-of-suc-le-suc, lt-of-lt-of-le,
 use native.Mathlib.Numerals.{one-add}
 use native.Mathlib.Omega.{arith}
 use Rattle.lists.specs.Lists.{Every, OneOf}
+use borrow.Author.Tests.{eqb-false}
 use Rattle.validation.proofs.TestLaws.{eqb-true, le-true, true-T, true-eqb}
 use Rattle.atoms.specs.Atoms.{violation}
 use Rattle.atoms.specs.Sets.{Member, Subset, bit, difference, disjoint, intersection, setOf, single, subset, union}
@@ -222,6 +223,10 @@ true-subset a b f =
 pub disjoint-true : (a b : ℕ) → disjoint a b ≡ true → (k : ℕ) → Member k a → Member k b → ⊥
 disjoint-true a b e k m n =
     none-in-empty k (subst (λ (x : ℕ). Member k x) (eqb-true _ _ e) (intersection-iff a b k .1 (m, n)))
+
+-- sets that are not apart share an atom
+pub meets : (a b : ℕ) → disjoint a b ≡ false → (k : ℕ) × Member k a × Member k b
+meets a b e = let (k, m) = inhabited (intersection a b) (eqb-false _ _ e) in let p = intersection-iff a b k .0 m in (k, p .0, p .1)
 
 pub true-disjoint : (a b : ℕ) → ((k : ℕ) → Member k a → Member k b → ⊥) → disjoint a b ≡ true
 true-disjoint a b f =

@@ -7,6 +7,7 @@ use Rattle.atoms.proofs.MeaningProof.{meaning}
 use Rattle.rules.proofs.TheoremsProof as rules
 use Rattle.iteration.proofs.ExamplesProof.{examples}
 use Rattle.iteration.proofs.TheoremsProof as iteration
+use Rattle.strata.proofs.TheoremsProof as strata
 use Rattle.records.proofs.TheoremsProof as records
 use Rattle.form.proofs.TheoremsProof as form
 use Rattle.policy.proofs.TheoremsProof as policy
@@ -32,6 +33,7 @@ use Rattle.demands.proofs.VisitProof.{always-sound, rounds-keep-sound, visits-m
 use Rattle.demands.proofs.WeightsProof.{weights-aside}
 use Rattle.marked.proofs.MarkedCases.{marked}
 use Rattle.marked.proofs.WeightedCases.{weighted}
+use Rattle.former.proofs.TheoremsProof as former
 use Rattle.session.proofs.TheoremsProof as session
 use Rattle.replay.proofs.TheoremsProof as replay
 use Rattle.packing.proofs.TheoremsProof as packing
@@ -65,6 +67,7 @@ claims = record {
   models = rules.theorems;
   passes = iteration.theorems;
   pass-counts = examples;
+  levels = strata.theorems;
   encoding = records.theorems;
   policies = form.theorems;
   checks = policy.theorems;
@@ -97,6 +100,7 @@ claims = record {
   marked = marked;
   weighted = weighted;
   weights-aside = weights-aside;
+  former = former.theorems;
   printed = transcript.theorems;
   steps = console.theorems;
   lines = lines.theorems;

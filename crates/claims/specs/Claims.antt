@@ -7,10 +7,12 @@
 -- rules: Rule, Policy, Headed, Levelled, Stratified, BodyHolds, ClosedBeside, Closed, Least, Stable, OneStable, Unlocks, Equivalent, byLevel,
 --   ofLevel, weightAmong, weightIn, WeightTable, times
 -- iteration: headsOf, atomsAdded, afterPasses, Idle, LeastIdle, ClosedIn, RulesClosedIn, ReachedIn, Counts, and what Examples names
--- records: Record, readRecord, recordAt, recordsBefore, recordsOf, rulesOf, policyOf, unweighted, level, levelCount, Sized, writeRecords, withRecord,
---   _if_not_, disclose_if_, credential_weighing_
+-- strata: Levelable, levelOf, SizedBody, Over64; Uses, DependsIn, NegatedLoop
+-- records: Record, readRecord, recordAt, recordsBefore, recordsOf, rulesOf, policyOf, unweighted, Sized, writeRecords, withRecord, _if_not_,
+--   disclose_if_, credential_weighing_
+-- levels: levelAt, Low, Levels, Fine
 -- form: Refusal, PolicyNumber; the statements that PolicyForm lists, WellFormed, PolicyRefused; and Tested, Numbers, Written, RecordAllowed,
---   SecondWeight, Faulty, Ragged, which say the same without the list; Weighs, Weights; Gives
+--   SecondWeight, Faulty, Ragged, Unlevelled, which say the same without the list; Weighs, Weights; Gives
 -- arrays: rulesIn, Placed, KeepLevels, LaidOut, evaluated
 -- disclosure: Disclosable, Askable, Discloses, GivesDisclosable
 -- model: GivesModel
@@ -26,6 +28,8 @@
 --   RoundPromise, SoundAndFits, OpeningMeets, RoundMeets; Visit, Fitting, under, visitsOf, AlwaysSound; policyOn, visitOn, changing, asked, AtMost;
 --   policyC, held, shownFirst, unlocking, turnsC, asking; SameButQuestions
 -- marked: policyA, policyB, unlocksBy, turns, answers, lines, asking; threeWays, askedInTurn
+-- former: level; the statements that FormerForm lists, FormerlyWellFormed, FormerlyRefused, FormerlyTested; formerModel, formerDisclosable,
+--   formerRound, formerRounds, Unchanged
 -- replay: Calls, turnOf, movesOf
 -- packing: Packable, packed, unpacked, tenBytes, Call, openCall, roundCall, callsFrom, checkReply, setReply, setAfter, replyFor, callOf, Told with
 --   its parts, askedIn, and what Examples names
@@ -58,6 +62,7 @@ use Rattle.atoms.specs.Meaning.{Meaning}
 use Rattle.rules.specs.Theorems as rules
 use Rattle.iteration.specs.Examples.{Examples}
 use Rattle.iteration.specs.Theorems as iteration
+use Rattle.strata.specs.Theorems as strata
 use Rattle.records.specs.Theorems as records
 use Rattle.form.specs.Theorems as form
 use Rattle.policy.specs.Theorems as policy
@@ -85,6 +90,7 @@ use Rattle.demands.specs.Promises.{AlwaysSound, Fitting, Opening, RoundPromise,
 use Rattle.demands.specs.Weights.{WeightsAside}
 use Rattle.marked.specs.Marked.{Marked}
 use Rattle.marked.specs.Weighted.{Weighted}
+use Rattle.former.specs.Theorems as former
 use Rattle.session.specs.Theorems as session
 use Rattle.replay.specs.Theorems as replay
 use Rattle.packing.specs.Theorems as packing
@@ -113,6 +119,8 @@ pub record Claims : Type 1 where
   -- passes until one adds nothing: there is a first that is idle, for every list of rules and every set, and how soon it comes; counts of chosen cases
   pub passes : iteration.Theorems
   pub pass-counts : Examples
+  -- document 02, R-4: whether rules have levels at all, and which; a loop through a negation is what leaves none
+  pub levels : strata.Theorems
   -- what a record's writer writes is what its reader reads
   pub encoding : records.Theorems
   -- demand 1, of the policy's test; an accepted policy has one stable set over every set of credentials; and what credentials weigh under it
@@ -170,6 +178,8 @@ pub record Claims : Type 1 where
   -- document 02, R-2: examples of weights, and what weights leave as it is
   pub weighted : Weighted
   pub weights-aside : WeightsAside
+  -- document 02, R-4: policies accepted before keep their models, and every other answer
+  pub former : former.Theorems
   -- what the bench program prints, from the bytes of two files, and that its steps print this
   pub printed : transcript.Theorems
   pub steps : console.Theorems

@@ -3,7 +3,7 @@ use mathlib.Core.Path.{_≡_, refl}
 use mathlib.Core.Bool.{Bool, _&&_, true}
 use mathlib.Core.List.{List, [], _∷_}
 use mathlib.Core.Option.{orElse}
-use Prim.Native.Nat.{_<_, _^_, ℕ}
+use Prim.Native.Nat.{_^_, ℕ}
 use lib.Count.{onesIn}
 use lib.Dec.{ltb}
 use native.Mathlib.Omega.{arith}
@@ -20,12 +20,13 @@ use Rattle.rules.specs.Unlocking.{Unlocks, unlocks}
 use Rattle.rules.specs.Model.{closureBy, consequences, model, passBy, times}
 use Rattle.rules.specs.Stable.{reduct}
 use Rattle.rules.specs.Weights.{weightAmong}
+use Rattle.strata.specs.Strata.{above, stratifiable, stratum}
 use Rattle.records.specs.Policies.{policyOf}
 use Rattle.records.specs.Records.{ofKind, readRecord, recordsFrom, recordsOf, rulesOf}
 use Rattle.records.specs.Writing.{_if_not_, disclose_if_, writeRecord}
 use Rattle.form.proofs.PolicyLaws.{disclosure-heads, unlocks-iff}
 use Rattle.form.specs.WrittenForm.{WellFormed}
-use Rattle.form.specs.PolicyTest.{accessLevels, forAtoms, policyRefusal, policyTests, testsFrom}
+use Rattle.form.specs.PolicyTest.{policyRefusal, policyTests, testsFrom}
 use Rattle.form.proofs.TheoremsProof as form
 use Rattle.disclosure.proofs.DisclosureLaws.{disclosable-iff}
 use Rattle.disclosure.specs.Disclosure.{Disclosable, askable, disclosable}
@@ -43,7 +44,7 @@ use Rattle.demands.proofs.SeventeenProof.{byteTest, test-bytes}
 
 -- everything that it computes with
 computed : Unit {0}
-unfolding _if_not_ disclose_if_ writeRecord bytesOf setOf littleEndian readRecord forAtoms accessLevels firstFailed relabelled testsFrom policyTests
+unfolding _if_not_ disclose_if_ writeRecord bytesOf setOf littleEndian readRecord above stratum stratifiable firstFailed relabelled testsFrom policyTests
     policyRefusal orElse recordsFrom recordsOf ofKind rulesOf reduct times passBy closureBy consequences model disclosable askable unlocks
     onesIn size subsets lexBefore preferred candidates chosen totalIn weightAmong ending worked sessionRefusal roundRefusal round run acceptedOf Each reply
     byteTest policyC turnsC

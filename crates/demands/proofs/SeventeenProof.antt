@@ -20,9 +20,10 @@ use Rattle.rules.specs.Unlocking.{unlocks}
 use Rattle.rules.specs.Model.{closureBy, consequences, model, passBy, times}
 use Rattle.rules.specs.Stable.{reduct}
 use Rattle.rules.specs.Weights.{weightAmong}
+use Rattle.strata.specs.Strata.{above, stratifiable, stratum}
 use Rattle.records.specs.Records.{ofKind, readRecord, recordsFrom, recordsOf, rulesOf}
 use Rattle.records.specs.Writing.{_if_not_, disclose_if_, writeRecord}
-use Rattle.form.specs.PolicyTest.{accessLevels, forAtoms, policyTests, testsFrom}
+use Rattle.form.specs.PolicyTest.{policyTests, testsFrom}
 use Rattle.disclosure.specs.Disclosure.{disclosable}
 use Rattle.preference.specs.Preference.{lexBefore, preferred, subsets}
 use Rattle.preference.specs.Question.{candidates, chosen}
@@ -50,7 +51,7 @@ test-bytes (b ∷ bs) e = let h = and-true (ltb b 256) (byteTest bs) e in (decid
 
 -- everything that they compute with
 computed : Unit {0}
-unfolding _if_not_ disclose_if_ writeRecord bytesOf setOf littleEndian readRecord forAtoms accessLevels firstFailed relabelled testsFrom policyTests
+unfolding _if_not_ disclose_if_ writeRecord bytesOf setOf littleEndian readRecord above stratum stratifiable firstFailed relabelled testsFrom policyTests
     orElse recordsFrom recordsOf ofKind rulesOf reduct times passBy closureBy consequences model disclosable unlocks onesIn size subsets
     lexBefore preferred candidates chosen totalIn weightAmong ending worked openingTests sessionRefusal roundRefusal round run opening acceptedOf inTurn policyOn
     byteTest

@@ -1,4 +1,4 @@
--- Which record of a policy is the first at fault. Assumes nothing.
+-- Which record of a policy is the first at fault, or whether the policy as a whole is. Assumes nothing.
 use mathlib.Core.Path.{_≡_, ap, subst, sym}
 use mathlib.Core.Logic.{_↔_, _⊎_, inl, inr}
 use mathlib.Core.List.{List, _++_}
@@ -108,9 +108,12 @@ module _ (bytes : List ℕ) where
   abbrev all : List (Type 0 × Refusal)
   all = RecordForms bytes 0 (wholeRecords bytes)
 
-  -- a length is wrong, or one record is the first at fault
+  -- where the lengths are right: a record is the first at fault, or none is, and the policy as a whole
+  abbrev pub AfterLengths : ℕ → ℕ → Type 0
+  AfterLengths m p = FirstFrom 0 (wholeRecords bytes) m p ⊎ (AllHold (RecordForms bytes 0 (wholeRecords bytes)) × FirstBroken (WholeForm bytes) (at m p))
+
   pub refused-iff : (m p : ℕ)
-      → PolicyRefused bytes (at m p) ↔ (FirstBroken (Lengths bytes) (at m p) ⊎ (AllHold (Lengths bytes) × FirstFrom 0 (wholeRecords bytes) m p))
+      → PolicyRefused bytes (at m p) ↔ (FirstBroken (Lengths bytes) (at m p) ⊎ (AllHold (Lengths bytes) × AfterLengths m p))
   unfolding PolicyRefused PolicyForm
   refused-iff m p = (λ x. forth (lengths .0 x), λ x. lengths .1 (back x))
     where
@@ -122,16 +125,20 @@ module _ (bytes : List ℕ) where
           ↔ (FirstBroken all (at m p) ⊎ (AllHold all × FirstBroken (WholeForm bytes) (at m p)))
       records = broken-append all (WholeForm bytes) (at m p)
 
-      only : FirstBroken all (at m p) ⊎ (AllHold all × ⊥) → FirstFrom 0 (wholeRecords bytes) m p
-      only (inl x) = from-broken m p 0 (wholeRecords bytes) .0 x
-      only (inr (_, x)) = absurd x
+      there : FirstBroken all (at m p) ⊎ (AllHold all × FirstBroken (WholeForm bytes) (at m p)) → AfterLengths m p
+      there (inl x) = inl (from-broken m p 0 (wholeRecords bytes) .0 x)
+      there (inr x) = inr x
+
+      from : AfterLengths m p → FirstBroken all (at m p) ⊎ (AllHold all × FirstBroken (WholeForm bytes) (at m p))
+      from (inl x) = inl (from-broken m p 0 (wholeRecords bytes) .1 x)
+      from (inr x) = inr x
 
       forth : FirstBroken (Lengths bytes) (at m p) ⊎ (AllHold (Lengths bytes) × FirstBroken (RecordForms bytes 0 (wholeRecords bytes) ++ WholeForm bytes) (at m p))
-          → FirstBroken (Lengths bytes) (at m p) ⊎ (AllHold (Lengths bytes) × FirstFrom 0 (wholeRecords bytes) m p)
+          → FirstBroken (Lengths bytes) (at m p) ⊎ (AllHold (Lengths bytes) × AfterLengths m p)
       forth (inl x) = inl x
-      forth (inr (h, x)) = inr (h, only (records .0 x))
+      forth (inr (h, x)) = inr (h, there (records .0 x))
 
-      back : FirstBroken (Lengths bytes) (at m p) ⊎ (AllHold (Lengths bytes) × FirstFrom 0 (wholeRecords bytes) m p)
+      back : FirstBroken (Lengths bytes) (at m p) ⊎ (AllHold (Lengths bytes) × AfterLengths m p)
           → FirstBroken (Lengths bytes) (at m p) ⊎ (AllHold (Lengths bytes) × FirstBroken (RecordForms bytes 0 (wholeRecords bytes) ++ WholeForm bytes) (at m p))
       back (inl x) = inl x
-      back (inr (h, x)) = inr (h, records .1 (inl (from-broken m p 0 (wholeRecords bytes) .1 x)))
+      back (inr (h, x)) = inr (h, records .1 (from x))

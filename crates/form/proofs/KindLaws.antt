@@ -1,13 +1,11 @@
 -- Which kinds there are, and what is asked of a record of each kind by itself. Assumes nothing.
 use mathlib.Core.Path.{_≡_, subst}
-use mathlib.Core.Logic.{_↔_, _⊎_, inl, inr}
+use mathlib.Core.Logic.{_↔_, inl, inr}
 use Prim.Native.Nat.{_<_, _≤_, ℕ}
 use native.Mathlib.Decide.{decLt}
 use native.Mathlib.Omega.{arith}
 use Rattle.atoms.specs.Sets.{Member}
 use Rattle.atoms.proofs.SetLaws.{none-in-empty, none-is-empty}
-use Rattle.rules.specs.Rules.{Levelled}
-use Rattle.records.specs.Levels.{level}
 use Rattle.records.specs.Records.{Record}
 use Rattle.form.specs.Theorems.{RecordAllowed}
 use Rattle.form.specs.WrittenForm.{KindAllowed}
@@ -27,15 +25,13 @@ kinds-iff d = (forth, λ h. back h (decLt (d .kind) 2) (decLt (d .kind) 3))
 
 module _ (d : Record) where
   pub access-iff : d .kind ≡ 1
-      → RecordAllowed d ↔ (((16 ≤ d .rule .head) × (d .rule .head ≤ 63))
-      × (((Member 63 (d .rule .positive) → ⊥) × (Member 63 (d .rule .negated) → ⊥)) × Levelled level (d .rule)))
+      → RecordAllowed d ↔ (((16 ≤ d .rule .head) × (d .rule .head ≤ 63)) × ((Member 63 (d .rule .positive) → ⊥) × (Member 63 (d .rule .negated) → ⊥)))
   access-iff e = (
-    λ r. (r .head .0 e, (r .body .0 e, r .levels e)),
-    λ (h, (b, l)). record {
+    λ r. (r .head .0 e, r .body .0 e),
+    λ (h, b). record {
       kind = inl e;
       head = (λ _. h, (λ a. absurd (omega (arith, a, e)), λ a. absurd (omega (arith, a, e))));
       body = (λ _. b, λ a. absurd (omega (arith, a, e)));
-      levels = λ _. l;
       weight = λ a. absurd (omega (arith, a, e));
     },
   )
@@ -48,7 +44,6 @@ module _ (d : Record) where
       kind = inr (inl e);
       head = (λ a. absurd (omega (arith, a, e)), (λ _. h, λ a. absurd (omega (arith, a, e))));
       body = (λ a. absurd (omega (arith, a, e)), λ _. (p, λ k m. none-in-empty k (subst (λ (s : ℕ). Member k s) n m)));
-      levels = λ a. absurd (omega (arith, a, e));
       weight = λ a. absurd (omega (arith, a, e));
     },
   )
@@ -60,7 +55,6 @@ module _ (d : Record) where
       kind = inr (inr e);
       head = (λ a. absurd (omega (arith, a, e)), (λ a. absurd (omega (arith, a, e)), λ _. h));
       body = (λ a. absurd (omega (arith, a, e)), λ a. absurd (omega (arith, a, e)));
-      levels = λ a. absurd (omega (arith, a, e));
       weight = λ _. (p, λ k m. none-in-empty k (subst (λ (s : ℕ). Member k s) n m));
     },
   )

@@ -3,7 +3,7 @@ use mathlib.Core.Path.{_≡_, ap, refl, subst, sym}
 use mathlib.Core.Logic.{_↔_, _⊎_, _≢_, inl, inr}
 use mathlib.Core.List.{List}
 use mathlib.Core.Option.{Option, some}
-use Prim.Native.Nat.{_<_, _≤_, ℕ}
+use Prim.Native.Nat.{_+_, _<_, _≤_, ℕ}
 use lib.ListN.{length}
 use native.Mathlib.Decide.{decLt}
 use native.Mathlib.Nat.{lt-of-not-le}
@@ -15,29 +15,33 @@ use Rattle.atoms.specs.Sets.{Member, empty}
 use Rattle.atoms.proofs.SetLaws.{none-in-empty, none-is-empty}
 use Rattle.rules.specs.Rules.{Rule}
 use Rattle.records.specs.Records.{Record, recordAt, recordsFrom, weightKind, wholeRecords}
-use Rattle.form.specs.Theorems.{Faulty, Numbers, Ragged, RecordAllowed, SecondWeight, Tested}
-use Rattle.form.specs.WrittenForm.{Lengths, PolicyNumber, PolicyRefused, RecordForm, Refusal, WeightBody, at}
-use Rattle.form.proofs.FormLaws.{FirstFrom, FormAt, form-iff, number-is, place-is, refused-iff}
+use Rattle.form.specs.Theorems.{Faulty, Numbers, Ragged, RecordAllowed, SecondWeight, Tested, Unlevelled}
+use Rattle.form.specs.WrittenForm.{Lengths, PolicyNumber, PolicyRefused, RecordForm, RecordForms, Refusal, WeightBody, WholeForm, at}
+use Rattle.form.proofs.FormLaws.{AfterLengths, FormAt, form-iff, number-is, place-is, refused-iff}
 use Rattle.form.proofs.WeightLaws.{second-iff}
+use Rattle.form.proofs.WrittenLaws.{from-hold}
 
 rising : (before : List Record) (d : Record) → Rising 3 (RecordForm before d)
-rising before d = (omega arith, (omega arith, (omega arith, (omega arith, (omega arith, (omega arith, tt))))))
+rising before d = (omega arith, (omega arith, (omega arith, (omega arith, (omega arith, tt)))))
 
--- a record gives 3 to 6, 12 and 13
+-- a record gives 3 to 5, 12 and 13
 record-number : (before : List Record) (d : Record) (n : ℕ) → FirstBroken (RecordForm before d) n → (3 ≤ n) × PolicyNumber n
 record-number before d = broken-every (λ n. (3 ≤ n) × PolicyNumber n) (RecordForm before d) (
   low (omega arith),
-  (
-    low (omega arith),
-    (low (omega arith), (low (omega arith), ((omega arith, inr (inl refl)), ((omega arith, inr (inr refl)), tt)))),
-  ),
+  (low (omega arith), (low (omega arith), ((omega arith, inr (inl refl)), ((omega arith, inr (inr refl)), tt)))),
 )
   where
-    low : {n : ℕ} → (3 ≤ n) × (n ≤ 6) → (3 ≤ n) × PolicyNumber n
-    low (l, m) = (l, inl (omega arith, m))
+    low : {n : ℕ} → (3 ≤ n) × (n ≤ 5) → (3 ≤ n) × PolicyNumber n
+    low (l, m) = (l, inl (omega arith, omega arith))
+
+-- it does not give 6
+record-other : (before : List Record) (d : Record) → FirstBroken (RecordForm before d) 6 → ⊥
+record-other before d x =
+    broken-every (λ n. n ≢ 6) (RecordForm before d)
+    (λ e. omega arith, (λ e. omega arith, (λ e. omega arith, (λ e. omega arith, (λ e. omega arith, tt))))) 6 x refl
 
 -- where 12 is the first number that a record breaks, by its form and spelled out
-weight-broken : (before : List Record) (d : Record) → BrokenAt (RecordForm before d) 4
+weight-broken : (before : List Record) (d : Record) → BrokenAt (RecordForm before d) 3
     ↔ ((d .kind ≡ weightKind) × ((d .rule .head ≤ lastCredential) × ((15 < d .rule .positive) ⊎ (d .rule .negated ≢ empty))))
 weight-broken before d = (forth, back)
   where
@@ -48,21 +52,21 @@ weight-broken before d = (forth, back)
     over n (yes l) = inl l
     over n (no l) = inr (λ e. n (omega arith, λ k m. none-in-empty k (subst (λ (s : ℕ). Member k s) e m)))
 
-    forth : BrokenAt (RecordForm before d) 4 → (d .kind ≡ weightKind) × ((r .head ≤ lastCredential) × ((15 < r .positive) ⊎ (r .negated ≢ empty)))
-    forth (inl e, (_, (_, (_, n)))) = absurd (n (λ w. absurd (omega arith)))
-    forth (inr (inl e), (_, (_, (_, n)))) = absurd (n (λ w. absurd (omega arith)))
-    forth (inr (inr e), (h, (_, (_, n)))) = (e, (h .1 .1 e, over (λ b. n (λ _. b)) (decLt 15 (r .positive))))
+    forth : BrokenAt (RecordForm before d) 3 → (d .kind ≡ weightKind) × ((r .head ≤ lastCredential) × ((15 < r .positive) ⊎ (r .negated ≢ empty)))
+    forth (inl e, (_, (_, n))) = absurd (n (λ w. absurd (omega arith)))
+    forth (inr (inl e), (_, (_, n))) = absurd (n (λ w. absurd (omega arith)))
+    forth (inr (inr e), (h, (_, n))) = (e, (h .1 .1 e, over (λ b. n (λ _. b)) (decLt 15 (r .positive))))
 
     under : (15 < r .positive) ⊎ (r .negated ≢ empty) → WeightBody r → ⊥
     under (inl l) b = omega (arith, b .0)
     under (inr n) b = n (none-is-empty (r .negated) (b .1))
 
-    back : (d .kind ≡ weightKind) × ((r .head ≤ lastCredential) × ((15 < r .positive) ⊎ (r .negated ≢ empty))) → BrokenAt (RecordForm before d) 4
+    back : (d .kind ≡ weightKind) × ((r .head ≤ lastCredential) × ((15 < r .positive) ⊎ (r .negated ≢ empty))) → BrokenAt (RecordForm before d) 3
     back (e, (h, o)) = (
       inr (inr e),
       (
         (λ a. absurd (omega arith), (λ b. absurd (omega arith), λ _. h)),
-        ((λ a. absurd (omega arith), λ b. absurd (omega arith)), (λ a. absurd (omega arith), λ w. under o (w e))),
+        ((λ a. absurd (omega arith), λ b. absurd (omega arith)), λ w. under o (w e)),
       ),
     )
 
@@ -74,9 +78,14 @@ module _ (bytes : List ℕ) where
       Low : Refusal → Type 0
       Low (at n k) = (1 ≤ n) × (n ≤ 2)
 
-  -- what is refused, by a length or by a record
+  -- the policy as a whole gives 6, with the count of records
+  whole-number : (n k : ℕ) → FirstBroken (WholeForm bytes) (at n k) → (n ≡ 6) × (k ≡ wholeRecords bytes)
+  whole-number n k (inl (_, e)) = (number-is e, place-is e)
+  whole-number n k (inr (_, x)) = absurd x
+
+  -- what is refused, by a length, by a record or by the policy as a whole
   abbrev Given : ℕ → ℕ → Type 0
-  Given n k = FirstBroken (Lengths bytes) (at n k) ⊎ (AllHold (Lengths bytes) × FirstFrom bytes 0 (wholeRecords bytes) n k)
+  Given n k = FirstBroken (Lengths bytes) (at n k) ⊎ (AllHold (Lengths bytes) × AfterLengths bytes n k)
 
   one-given : (k : ℕ) → PolicyRefused bytes (at 1 k) ↔ ((2304 < length bytes) × (k ≡ 128))
   one-given k = (λ x. forth (refused-iff bytes 1 k .0 x), λ h. refused-iff bytes 1 k .1 (inl (inl (λ l. omega (arith, h .0), ap (at 1) (h .1)))))
@@ -85,7 +94,8 @@ module _ (bytes : List ℕ) where
       forth (inl (inl (h, e))) = (lt-of-not-le h, place-is e)
       forth (inl (inr (_, inl (_, e)))) = absurd (omega (arith, number-is e))
       forth (inl (inr (_, inr (_, x)))) = absurd x
-      forth (inr (_, x)) = absurd (omega (arith, record-number (recordsFrom bytes 0 k) (recordAt bytes k) 1 (x .broken) .0))
+      forth (inr (_, inl x)) = absurd (omega (arith, record-number (recordsFrom bytes 0 k) (recordAt bytes k) 1 (x .broken) .0))
+      forth (inr (_, inr (_, x))) = absurd (omega (arith, whole-number 1 k x .0))
 
   two-given : (k : ℕ) → PolicyRefused bytes (at 2 k) ↔ Ragged bytes k
   two-given k = (λ x. forth (refused-iff bytes 2 k .0 x), λ x. refused-iff bytes 2 k .1 (inl (inr (x .longest, inl (x .ragged, ap (at 2) (place x))))))
@@ -99,12 +109,14 @@ module _ (bytes : List ℕ) where
           let p = place-is e in
           record { longest = l; ragged = h; whole-ones = omega (arith, p); no-more = omega (arith, p) }
       forth (inl (inr (_, inr (_, x)))) = absurd x
-      forth (inr (_, x)) = absurd (omega (arith, record-number (recordsFrom bytes 0 k) (recordAt bytes k) 2 (x .broken) .0))
+      forth (inr (_, inl x)) = absurd (omega (arith, record-number (recordsFrom bytes 0 k) (recordAt bytes k) 2 (x .broken) .0))
+      forth (inr (_, inr (_, x))) = absurd (omega (arith, whole-number 2 k x .0))
 
   -- the number of the statement at place i of a record's form, where Broken says that this is the first that does not hold
-  record-given : (i : ℕ) → i < 6 → (n : ℕ) → ((before : List Record) (d : Record) → numberAt (RecordForm before d) i ≡ n) → (k : ℕ)
+  record-given : (i : ℕ) → i < 5 → (n : ℕ) → n ≢ 6 → ((before : List Record) (d : Record) → numberAt (RecordForm before d) i ≡ n) → (k : ℕ)
       → (Broken : Record → Type 0) → BrokenAt (FormAt bytes k) i ↔ Broken (recordAt bytes k) → PolicyRefused bytes (at n k) ↔ Faulty bytes k Broken
-  record-given i l n e k Broken says = (λ x. forth (refused-iff bytes n k .0 x), λ x. refused-iff bytes n k .1 (inr (back x)))
+  record-given i l n other e k Broken says =
+      (λ x. forth (refused-iff bytes n k .0 x), λ x. refused-iff bytes n k .1 (inr (back x)))
     where
       before : List Record
       before = recordsFrom bytes 0 k
@@ -117,7 +129,8 @@ module _ (bytes : List ℕ) where
 
       forth : Given n k → Faulty bytes k Broken
       forth (inl x) = absurd (omega (arith, length-number n k x, e before d, number-least 3 (FormAt bytes k) (rising before d) i l))
-      forth (inr (h, x)) = record {
+      forth (inr (_, inr (_, x))) = absurd (other (whole-number n k x .0))
+      forth (inr (h, inl x)) = record {
         longest = h .0;
         whole = h .1 .0;
         inside = omega (arith, x .inside);
@@ -126,28 +139,65 @@ module _ (bytes : List ℕ) where
         broken = says .0 (given .0 (subst (FirstBroken (FormAt bytes k)) (sym (e before d)) (x .broken)));
       }
 
-      back : Faulty bytes k Broken → AllHold (Lengths bytes) × FirstFrom bytes 0 (wholeRecords bytes) n k
+      back : Faulty bytes k Broken → AllHold (Lengths bytes) × AfterLengths bytes n k
       back x = (
         (x .longest, (x .whole, tt)),
-        record {
+        inl (record {
           from = omega arith;
           inside = omega (arith, x .inside);
           before = λ j _ l. form-iff bytes j .1 (x .before j l, λ i h. x .weighed-once i j h l);
           broken = subst (FirstBroken (FormAt bytes k)) (e before d) (given .1 (says .1 (x .broken)));
-        },
+        }),
       )
 
+  -- the records are in order, each by itself and beside the others
+  abbrev all : Type 0
+  all = AllHold (RecordForms bytes 0 (wholeRecords bytes))
+
+  six-given : (k : ℕ) → PolicyRefused bytes (at 6 k) ↔ Unlevelled bytes k
+  six-given k = (λ x. forth (refused-iff bytes 6 k .0 x), λ x. refused-iff bytes 6 k .1 (inr (back x)))
+    where
+      each : all ↔ ((j : ℕ) → 0 ≤ j → j < 0 + wholeRecords bytes → AllHold (FormAt bytes j))
+      each = from-hold bytes 0 (wholeRecords bytes)
+
+      forth : Given 6 k → Unlevelled bytes k
+      forth (inl x) = absurd (omega (arith, length-number 6 k x .1))
+      forth (inr (_, inl x)) = absurd (record-other (recordsFrom bytes 0 k) (recordAt bytes k) (x .broken))
+      forth (inr (_, inr (_, inr (_, x)))) = absurd x
+      forth (inr (l, inr (h, inl (n, e)))) =
+          let p = place-is e in
+          let f : (j : ℕ) → j < k → AllHold (FormAt bytes j) = λ j i. each .0 h j (omega arith) (omega arith) in
+          record {
+            longest = l .0;
+            count = omega (arith, l .1 .0, p);
+            records = λ j i. form-iff bytes j .0 (f j i) .0;
+            weighed-once = λ i j m g. form-iff bytes j .0 (f j g) .1 i m;
+            no-levels = λ lev g. n (record { lev = lev; levels = g });
+          }
+
+      back : Unlevelled bytes k → AllHold (Lengths bytes) × AfterLengths bytes 6 k
+      back x =
+          let c = x .count in
+          let p : k ≡ wholeRecords bytes = omega arith in (
+            (x .longest, (omega (arith, c), tt)),
+            inr (
+              each .1 (λ j _ l. form-iff bytes j .1 (x .records j (omega arith), λ i m. x .weighed-once i j m (omega arith))),
+              inl (λ g. x .no-levels (g .lev) (g .levels), ap (at 6) p),
+            ),
+          )
+
   -- where 13 is the first number that record k breaks
-  second-broken : (k : ℕ) → BrokenAt (FormAt bytes k) 5 ↔ (RecordAllowed (recordAt bytes k) × ((j : ℕ) × (j < k) × SecondWeight bytes j k))
+  second-broken : (k : ℕ) → BrokenAt (FormAt bytes k) 4 ↔ (RecordAllowed (recordAt bytes k) × ((j : ℕ) × (j < k) × SecondWeight bytes j k))
   second-broken k =
       let i = second-iff bytes k in (
-        λ (a, (h, (b, (l, (w, n))))). (record { kind = a; head = h; body = b; levels = l; weight = w }, i .0 n),
-        λ (r, s). (r .kind, (r .head, (r .body, (r .levels, (r .weight, i .1 s))))),
+        λ (a, (h, (b, (w, n)))). (record { kind = a; head = h; body = b; weight = w }, i .0 n),
+        λ (r, s). (r .kind, (r .head, (r .body, (r .weight, i .1 s)))),
       )
 
   only-given : (n k : ℕ) → Given n k → PolicyNumber n
   only-given n k (inl x) = let l = length-number n k x in inl (l .0, omega (arith, l .1))
-  only-given n k (inr (_, x)) = record-number (recordsFrom bytes 0 k) (recordAt bytes k) n (x .broken) .1
+  only-given n k (inr (_, inl x)) = record-number (recordsFrom bytes 0 k) (recordAt bytes k) n (x .broken) .1
+  only-given n k (inr (_, inr (_, x))) = let e = whole-number n k x .0 in inl (omega arith, omega arith)
 
   -- a refusal's number is a byte, and not 0
   pub small-number : (n k : ℕ) → PolicyRefused bytes (at n k) → (1 ≤ n) × (n ≤ 13)
@@ -166,19 +216,20 @@ module _ (bytes : List ℕ) where
       go (inl (inl (_, e))) = omega (arith, place-is e)
       go (inl (inr (l, inl (_, e)))) = omega (arith, l, place-is e)
       go (inl (inr (_, inr (_, y)))) = absurd y
-      go (inr (h, y)) = omega (arith, h .0, y .inside)
+      go (inr (h, inl y)) = omega (arith, h .0, y .inside)
+      go (inr (h, inr (_, y))) = omega (arith, h .0, whole-number n k y .1)
 
   pub numbers : (o : Option Refusal) → Tested bytes o → Numbers bytes o
   numbers o t = record {
     one = λ k. through (at 1 k) (one-given k);
     two = λ k. through (at 2 k) (two-given k);
-    three = λ k. through (at 3 k) (record-given 0 (omega arith) 3 (λ before d. refl) k _ same);
-    four = λ k. through (at 4 k) (record-given 1 (omega arith) 4 (λ before d. refl) k _ same);
-    five = λ k. through (at 5 k) (record-given 2 (omega arith) 5 (λ before d. refl) k _ same);
-    six = λ k. through (at 6 k) (record-given 3 (omega arith) 6 (λ before d. refl) k _ same);
+    three = λ k. through (at 3 k) (record-given 0 (omega arith) 3 (λ e. omega arith) (λ before d. refl) k _ same);
+    four = λ k. through (at 4 k) (record-given 1 (omega arith) 4 (λ e. omega arith) (λ before d. refl) k _ same);
+    five = λ k. through (at 5 k) (record-given 2 (omega arith) 5 (λ e. omega arith) (λ before d. refl) k _ same);
+    six = λ k. through (at 6 k) (six-given k);
     twelve = λ k. through (at 12 k)
-        (record-given 4 (omega arith) 12 (λ before d. refl) k _ (weight-broken (recordsFrom bytes 0 k) (recordAt bytes k)));
-    thirteen = λ k. through (at 13 k) (record-given 5 (omega arith) 13 (λ before d. refl) k _ (second-broken k));
+        (record-given 3 (omega arith) 12 (λ e. omega arith) (λ before d. refl) k _ (weight-broken (recordsFrom bytes 0 k) (recordAt bytes k)));
+    thirteen = λ k. through (at 13 k) (record-given 4 (omega arith) 13 (λ e. omega arith) (λ before d. refl) k _ (second-broken k));
     only = λ n k e. only-given n k (refused-iff bytes n k .0 (t .refuses (at n k) .0 e));
   }
     where

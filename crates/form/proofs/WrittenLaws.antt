@@ -14,7 +14,7 @@ use Rattle.form.proofs.FormLaws.{FormAt, form-iff, labelled}
 
 module _ (bytes : List ℕ) where
   -- record k and those after it, n in all
-  from-hold : (k n : ℕ) → AllHold (RecordForms bytes k n) ↔ ((j : ℕ) → k ≤ j → j < k + n → AllHold (FormAt bytes j))
+  pub from-hold : (k n : ℕ) → AllHold (RecordForms bytes k n) ↔ ((j : ℕ) → k ≤ j → j < k + n → AllHold (FormAt bytes j))
   unfolding RecordForms
   from-hold k zero = (λ h j l m. absurd (omega arith), λ f. tt)
   from-hold k (suc n) = go (from-hold (suc k) n)
@@ -58,6 +58,7 @@ module _ (bytes : List ℕ) where
             whole = h .0 .1 .0;
             records = λ k l. form-iff bytes k .0 (f k (omega arith) (omega arith)) .0;
             weighed-once = λ j k i l. form-iff bytes k .0 (f k (omega arith) (omega arith)) .1 j i;
+            levels = records .0 (h .1) .1 .0;
           }
 
       back : Written bytes → AllHold (PolicyForm bytes)
@@ -65,6 +66,6 @@ module _ (bytes : List ℕ) where
         (w .longest, (w .whole, tt)),
         records .1 (
           from-hold 0 (wholeRecords bytes) .1 (λ k _ l. form-iff bytes k .1 (w .records k (omega arith), λ j i. w .weighed-once j k i (omega arith))),
-          tt,
+          (w .levels, tt),
         ),
       )

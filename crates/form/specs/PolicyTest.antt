@@ -1,4 +1,4 @@
--- Document 01, "Who can be turned back", and document 02, R-2: the policy's test, computed. specs/Theorems says that it accepts exactly the written form
+-- Document 01, "Who can be turned back", and document 02, R-2 and R-4: the policy's test, computed. specs/Theorems says that it accepts exactly the written form
 -- and gives every other policy its refusal. Assumes nothing.
 use mathlib.Core.Path.{_≡_}
 use mathlib.Core.Bool.{Bool, _&&_, _||_, cond, false, not, true}
@@ -11,8 +11,8 @@ use Rattle.validation.specs.Tests.{firstFailed, relabelled}
 use Rattle.atoms.specs.Atoms.{firstDerived, lastCredential, violation}
 use Rattle.atoms.specs.Sets.{empty, member}
 use Rattle.rules.specs.Rules.{Rule}
-use Rattle.records.specs.Levels.{level}
-use Rattle.records.specs.Records.{Record, accessKind, disclosureKind, recordAt, recordsBefore, weightKind, wholeRecords}
+use Rattle.strata.specs.Strata.{stratifiable}
+use Rattle.records.specs.Records.{Record, accessKind, disclosureKind, recordAt, recordsBefore, rulesOf, weightKind, wholeRecords}
 use Rattle.form.specs.WrittenForm.{Refusal, at}
 
 -- ---- the tests of a record
@@ -33,17 +33,6 @@ accessBody r = not (member violation (r .positive)) && not (member violation (r 
 abbrev pub disclosureBody : Rule → Bool
 disclosureBody r = ltb (r .positive) (2 ^ 16) && eqb (r .negated) empty
 
--- f passes for every atom below n that s has
-unfoldable pub forAtoms : ℕ → ℕ → (ℕ → Bool) → Bool
-forAtoms zero s f = true
-forAtoms (suc n) s f = (not (member n s) || f n) && forAtoms n s f
-
--- "no positive atom's level is above the head's, and every negated atom's level is smaller than the head's"
-unfoldable pub accessLevels : Rule → Bool
-accessLevels r =
-    forAtoms 64 (r .positive) (λ a. leb (level a) (level (r .head)))
-    && forAtoms 64 (r .negated) (λ a. ltb (level a) (level (r .head)))
-
 -- "12, weight above 15 or negated set not empty": neither
 abbrev pub weightBody : Rule → Bool
 weightBody r = leb (r .positive) 15 && eqb (r .negated) empty
@@ -63,7 +52,6 @@ recordTests before d =
     (eqb (d .kind) accessKind || (eqb (d .kind) disclosureKind || eqb (d .kind) weightKind), 3)
     ∷ (byKind d (accessHead (d .rule)) (credentialHead (d .rule)) (credentialHead (d .rule)), 4)
     ∷ (byKind d (accessBody (d .rule)) (disclosureBody (d .rule)) true, 5)
-    ∷ (byKind d (accessLevels (d .rule)) true true, 6)
     ∷ (byKind d true true (weightBody (d .rule)), 12)
     ∷ (byKind d true true (not (weighs (d .rule .head) before)), 13)
     ∷ []
@@ -95,9 +83,9 @@ unfoldable pub testsFrom : List ℕ → ℕ → ℕ → List (Bool × Refusal)
 testsFrom bytes k zero = []
 testsFrom bytes k (suc n) = testsAt bytes k ++ testsFrom bytes (suc k) n
 
--- those of the policy as a whole
+-- those of the policy as a whole, "after all records passed the rest": "The gate finds levels itself.", or 6, "with the count of records as its number"
 abbrev pub wholeTests : List ℕ → List (Bool × Refusal)
-wholeTests bytes = []
+wholeTests bytes = (stratifiable (rulesOf accessKind bytes), at 6 (wholeRecords bytes)) ∷ []
 
 unfoldable pub policyTests : List ℕ → List (Bool × Refusal)
 policyTests bytes = lengthTests bytes ++ (testsFrom bytes 0 (wholeRecords bytes) ++ wholeTests bytes)

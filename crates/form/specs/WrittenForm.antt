@@ -1,4 +1,4 @@
--- Document 01, "Atoms and records" and "Who can be turned back", and document 02, R-2: the written form of a policy, as statements in the order in which
+-- Document 01, "Atoms and records" and "Who can be turned back", and document 02, R-2 and R-4: the written form of a policy, as statements in the order in which
 -- they are tested, each beside the refusal that is given where it does not hold. No test is made here; specs/PolicyTest has the tests, and
 -- specs/Theorems says that they give what is said here. Assumes nothing.
 use mathlib.Core.Path.{_≡_}
@@ -11,9 +11,9 @@ use Rattle.validation.specs.Statements.{AllHold, FirstBroken}
 use Rattle.validation.specs.Tests.{relabelled}
 use Rattle.atoms.specs.Atoms.{firstDerived, lastCredential, violation}
 use Rattle.atoms.specs.Sets.{Member}
-use Rattle.rules.specs.Rules.{Levelled, Rule}
-use Rattle.records.specs.Levels.{level}
-use Rattle.records.specs.Records.{Record, accessKind, disclosureKind, recordAt, recordsBefore, weightKind, wholeRecords}
+use Rattle.rules.specs.Rules.{Rule}
+use Rattle.strata.specs.Strata.{Levelable}
+use Rattle.records.specs.Records.{Record, accessKind, disclosureKind, recordAt, recordsBefore, rulesOf, weightKind, wholeRecords}
 
 -- ---- a record
 
@@ -39,10 +39,6 @@ DisclosureBody r = ((k : ℕ) → Member k (r .positive) → k ≤ lastCredentia
 abbrev pub BodyAllowed : Record → Type 0
 BodyAllowed d = (d .kind ≡ accessKind → AccessBody (d .rule)) × (d .kind ≡ disclosureKind → DisclosureBody (d .rule))
 
--- "In an access rule no positive atom's level is above the head's, and every negated atom's level is smaller than the head's."
-abbrev pub LevelsAllowed : Record → Type 0
-LevelsAllowed d = d .kind ≡ accessKind → Levelled level (d .rule)
-
 -- not what is refused with "12, weight above 15 or negated set not empty", where the weight is the "positive set's number"
 abbrev pub WeightBody : Rule → Type 0
 WeightBody r = (r .positive ≤ 15) × ((k : ℕ) → Member k (r .negated) → ⊥)
@@ -60,13 +56,12 @@ abbrev pub FirstWeight : List Record → Record → Type 0
 FirstWeight before d = d .kind ≡ weightKind → Every (λ b. Weighs (d .rule .head) b → ⊥) before
 
 -- what the record d is held to, after the records `before`, each beside its number: "3: kind neither 1 nor 2.", which kind 3 passes now, "4: head not
--- allowed for the kind.", "5: body atom not allowed for the kind.", "6: level broken.", and 12 and 13
+-- allowed for the kind.", "5: body atom not allowed for the kind.", and 12 and 13
 abbrev pub RecordForm : List Record → Record → List (Type 0 × ℕ)
 RecordForm before d =
     (KindAllowed d, 3)
     ∷ (HeadAllowed d, 4)
     ∷ (BodyAllowed d, 5)
-    ∷ (LevelsAllowed d, 6)
     ∷ (WeightAllowed d, 12)
     ∷ (FirstWeight before d, 13)
     ∷ []
@@ -92,20 +87,22 @@ PolicyNumber n = ((1 ≤ n) × (n ≤ 6)) ⊎ ((n ≡ 12) ⊎ (n ≡ 13))
 abbrev pub Lengths : List ℕ → List (Type 0 × Refusal)
 Lengths bytes = (length bytes ≤ 2304, at 1 128) ∷ (length bytes % 18 ≡ 0, at 2 (wholeRecords bytes)) ∷ []
 
--- "records are tested in turn, each by 3 to 6", 12 and 13: record k and those after it, n in all
+-- "records are tested in turn", each by 3 to 5, 12 and 13: record k and those after it, n in all
 unfoldable pub RecordForms : List ℕ → ℕ → ℕ → List (Type 0 × Refusal)
 RecordForms bytes k zero = []
 RecordForms bytes k (suc n) = relabelled (λ m. at m k) (RecordForm (recordsBefore bytes k) (recordAt bytes k)) ++ RecordForms bytes (suc k) n
 
--- what the policy as a whole is held to, once each record keeps its form: nothing more
+-- what the policy as a whole is held to, once each record keeps its form: "Number 6 now says that no choice of a whole number as each atom's level gives
+-- each access head at least its positive atoms' level and more than its negated atoms' level, and is given exactly then, after all records passed the rest,
+-- with the count of records as its number."
 abbrev pub WholeForm : List ℕ → List (Type 0 × Refusal)
-WholeForm bytes = []
+WholeForm bytes = (Levelable (rulesOf accessKind bytes), at 6 (wholeRecords bytes)) ∷ []
 
 -- all of it, in order
 unfoldable pub PolicyForm : List ℕ → List (Type 0 × Refusal)
 PolicyForm bytes = Lengths bytes ++ (RecordForms bytes 0 (wholeRecords bytes) ++ WholeForm bytes)
 
--- "A policy is 0 to 128 records of 18 bytes, no header", each in its form
+-- "A policy is 0 to 128 records of 18 bytes, no header", each in its form, and levels can be found
 unfoldable pub WellFormed : List ℕ → Type 0
 WellFormed bytes = AllHold (PolicyForm bytes)
 

@@ -8,6 +8,7 @@ use lib.Bits.{and-zero-l, bitAnd}
 use lib.Count.{trailingZeros}
 use Rattle.validation.proofs.TestLaws.{true-eqb}
 use Rattle.atoms.specs.Sets.{bit, disjoint, member, subset}
+use Rattle.atoms.proofs.LowestLaws.{lowest-fits}
 use Rattle.atoms.proofs.SetLaws.{bit-empty}
 use Rattle.lane_table.specs.LaneSets.{Both, EachLane, Either, Splat, word}
 use Rattle.lane_table.specs.Tables.{Loaded, lane}
@@ -15,7 +16,7 @@ use Rattle.lane_table.specs.declared.lane_set.LaneSet.{LaneSet}
 use Rattle.lane_table.proofs.BitLaws.{is-out, member-and, member-or}
 use Rattle.lane_table.proofs.LaneLaws.{lane-member}
 use Rattle.lane_fixpoint.specs.Firing.{HavingAll, HavingAny}
-use Rattle.lane_fixpoint.proofs.LowestLaws.{disjoint-lowest, lowest-fits, subset-lowest}
+use Rattle.lane_fixpoint.proofs.LowestLaws.{disjoint-lowest, subset-lowest}
 
 module _ (table : List ℕ) where
   -- what is left of the body, m, says the rest

@@ -1,79 +1,21 @@
--- The lowest atom of a set, and the set without it. Assumes nothing.
-use mathlib.Core.Path.{_∙_, _≡_, ap, refl, subst, sym}
+-- The lowest atom of a set, and what it and the rest are to another set. Assumes nothing.
+use mathlib.Core.Path.{_∙_, _≡_, ap, subst, sym}
 use mathlib.Core.Logic.{_≢_}
 use mathlib.Core.Bool.{_&&_, not}
-use Prim.Native.Nat.{_%_, _*_, _-_, _/_, _<_, _^_, _≤_, max, suc, zero, ℕ}
-use lib.Bits.{and-le-r, and-self, and-step, bitAnd}
-use lib.Count.{trailingZeros, under}
+use Prim.Native.Nat.{_-_, _<_, _^_, _≤_, max, ℕ}
+use lib.Bits.{bitAnd}
+use lib.Count.{trailingZeros}
 use lib.Pow.{pow-mono}
 use native.Mathlib.Decide.{ℕ-discrete}
-use native.Mathlib.Nat.{pow-suc}
 use native.Mathlib.Omega.{arith}
 use Rattle.validation.proofs.DecideLaws.{decides-and, decides-eq, decides-not, same-decision}
 use Rattle.validation.specs.Statements.{Decides}
 use Rattle.atoms.specs.Sets.{Member, Subset, bit, disjoint, member, subset, union}
-use Rattle.atoms.proofs.SetLaws.{bit-first, bit-lt, bit-next, bit-one, bit-union, disjoint-true, ext, member-low, power-member, single-is, subset-true, true-disjoint, true-subset}
+use Rattle.atoms.proofs.LowestLaws.{Lowest, lowest-in, without}
+use Rattle.atoms.proofs.SetLaws.{bit-lt, bit-one, bit-union, disjoint-true, ext, member-low, power-member, single-is, subset-true, true-disjoint, true-subset}
 use Rattle.arrays.specs.Arrays.{OneAtom, atomOf}
 use Rattle.arrays.proofs.HeadLaws.{one-low, one-some}
 use Rattle.lane_table.proofs.BitLaws.{bit-other}
-
--- the lowest atom of m is t, and r is m without it
-record Lowest (m t r : ℕ) : Type 0 where
-  has : Member t m
-  gone : bit r t ≡ 0
-  rest : (k : ℕ) → t ≢ k → bit r k ≡ bit m k
-
-pub without : ℕ → ℕ
-without m = bitAnd m (m - 1)
-
-odd-rest : (n : ℕ) → n % 2 ≡ 1 → without n ≡ n / 2 * 2
-unfolding without
-odd-rest n e =
-    let h : (n - 1) / 2 ≡ n / 2 = omega arith in
-    let z : (n - 1) % 2 ≡ 0 = omega arith in
-    let s : bitAnd (n / 2) ((n - 1) / 2) ≡ n / 2 = ap (bitAnd (n / 2)) h ∙ and-self (n / 2) in
-    omega (arith, and-step n (n - 1))
-
-even-rest : (n : ℕ) → n % 2 ≡ 0 → without n ≡ without (n / 2) * 2
-unfolding without
-even-rest n e =
-    let h : (n - 1) / 2 ≡ n / 2 - 1 = omega arith in
-    let s : bitAnd (n / 2) ((n - 1) / 2) ≡ bitAnd (n / 2) (n / 2 - 1) = ap (bitAnd (n / 2)) h in
-    omega (arith, and-step n (n - 1))
-
-double-first : (x : ℕ) → bit (x * 2) 0 ≡ 0
-double-first x = bit-first (x * 2) ∙ omega arith
-
-double-next : (x k : ℕ) → bit (x * 2) (suc k) ≡ bit x k
-double-next x k = let h : x * 2 / 2 ≡ x = omega arith in bit-next (x * 2) k ∙ ap (λ (y : ℕ). bit y k) h
-
-lowest-in : (d n : ℕ) → 0 < n → n < 2 ^ d → Lowest n (trailingZeros d n) (without n)
-unfolding trailingZeros
-lowest-in zero n p l = absurd (omega arith)
-lowest-in (suc d) n p l = go (n % 2) refl (λ (e : n % 2 ≡ 0). lowest-in d (n / 2) (omega arith) (omega (arith, pow-suc 2 d)))
-  where
-    go : (x : ℕ) → n % 2 ≡ x → (n % 2 ≡ 0 → Lowest (n / 2) (trailingZeros d (n / 2)) (without (n / 2)))
-        → Lowest n (under x (trailingZeros d (n / 2))) (without n)
-    go zero e ih = let t = trailingZeros d (n / 2) in let r = ih e in record {
-      has = bit-next n t ∙ r .has;
-      gone = ap (λ (y : ℕ). bit y (suc t)) (even-rest n e) ∙ double-next (without (n / 2)) t ∙ r .gone;
-      rest = λ k. others k;
-    }
-      where
-        others : (k : ℕ) → suc (trailingZeros d (n / 2)) ≢ k → bit (without n) k ≡ bit n k
-        others zero ne = ap (λ (y : ℕ). bit y 0) (even-rest n e) ∙ double-first (without (n / 2)) ∙ sym e ∙ sym (bit-first n)
-        others (suc k) ne =
-            ap (λ (y : ℕ). bit y (suc k)) (even-rest n e)
-            ∙ double-next (without (n / 2)) k ∙ (ih e) .rest k (λ q. ne (ap suc q)) ∙ sym (bit-next n k)
-    go (suc x) e ih = let o : n % 2 ≡ 1 = omega arith in record {
-      has = bit-first n ∙ o;
-      gone = ap (λ (y : ℕ). bit y 0) (odd-rest n o) ∙ double-first (n / 2);
-      rest = λ k. others o k;
-    }
-      where
-        others : n % 2 ≡ 1 → (k : ℕ) → zero ≢ k → bit (without n) k ≡ bit n k
-        others o zero ne = absurd (ne refl)
-        others o (suc k) ne = ap (λ (y : ℕ). bit y (suc k)) (odd-rest n o) ∙ double-next (n / 2) k ∙ sym (bit-next n k)
 
 -- the atom of a set of one atom
 module _ (s : ℕ) (o : OneAtom s) where
@@ -102,13 +44,6 @@ module _ (m : ℕ) (some : m ≢ 0) (small : m < 2 ^ 64) where
   low : Lowest m t (without m)
   unfolding t
   low = lowest-in 64 m (omega arith) small
-
-  pub lowest-fits : trailingZeros 64 m < 64
-  unfolding t
-  lowest-fits = member-low m 64 t small (low .has)
-
-  pub rest-less : bitAnd m (m - 1) < m
-  rest-less = omega (arith, and-le-r m (m - 1))
 
   bit-m : (k : ℕ) → bit m k ≡ max (bit (2 ^ t) k) (bit (without m) k)
   bit-m k = go (ℕ-discrete t k)

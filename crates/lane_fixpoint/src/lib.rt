@@ -40,7 +40,7 @@ pub fn close<'a>(
         ⌜ LanesClosedIn (rulesIn (now (heads .entry)) (now (positive .entry)) (now (negated .entry)) from (to - from)) (now (table .entry))
         (now (table .exit)) (r .passes) ⌝ }
 {
-    reduce(table, negated, from, to);
+    reduce(table, negated, from, to, possible);
     let mut progress = Progress { possible, added: 0 };
     let mut initial: u64 = 1;
     let mut passes: u8 = 0;
@@ -59,15 +59,15 @@ pub fn close<'a>(
     }
 }
 
-// Row 64 + k becomes the lanes whose reduct has rule k: nothing that it negates holds there.
-fn reduce(table: &mut [u64; 768], negated: &[u64; 128], from: usize, to: usize)
-    requires { ⌜ Reducible from to (now table) ⌝ }
+// Row 64 + k becomes the lanes whose reduct has rule k: nothing that it negates holds there. What no lane has is not looked for.
+fn reduce(table: &mut [u64; 768], negated: &[u64; 128], from: usize, to: usize, possible: u64)
+    requires { ⌜ Reducible from to (now table) × Covers possible (now table) ⌝ }
     ensures { λ _. ⌜ Reduced (now (negated .entry)) from to (now (table .entry)) (now (table .exit)) ⌝ }
 {
     let mut k = from;
     while k < to {
         let none = negated[k];
-        let hit = having_any(table, none);
+        let hit = having_any(table, none & possible);
         store(table, 64 + k, hit.complement());
         k += 1;
     }

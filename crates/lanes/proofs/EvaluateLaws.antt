@@ -1,12 +1,13 @@
 -- Level after level, for all lanes at once. Assumes nothing.
-use mathlib.Core.Path.{_≡_, ap}
+use mathlib.Core.Path.{_≡_, ap, subst}
 use mathlib.Core.List.{List}
 use Prim.Native.Nat.{_+_, _-_, _<_, _≤_, ℕ}
 use lib.ListN.{getD, length}
 use native.Mathlib.Omega.{arith}
 use Rattle.rules.specs.LevelByLevel.{levelByLevel}
-use Rattle.arrays.specs.Arrays.{evaluated, levelsIn}
-use Rattle.arrays.proofs.ArrayLaws.{levels-done-at, levels-next-at}
+use Rattle.arrays.specs.Arrays.{Ordered, evaluated, levelsIn}
+use Rattle.arrays.proofs.ArrayLaws.{levels-next-at}
+use Rattle.arrays.proofs.EndLaws.{Reached, levels-end-at}
 use Rattle.lane_table.specs.LaneSets.{EachLane}
 use Rattle.lane_table.specs.Tables.{lane}
 use Rattle.lane_fixpoint.specs.Closure.{LevelClosed}
@@ -30,18 +31,21 @@ module _ (levels : ℕ) (heads positive negated starts : List ℕ) where
         ap (λ (x : ℕ). levelByLevel (levelsIn heads positive negated starts 0 x) (lane table t i)) all;
   }
 
-  pub evaluating-next : (first table after : List ℕ) (l before possible : ℕ) → l < levels → Evaluating first table before l
-      → LevelClosed heads positive negated (getD starts l 0) (getD starts (l + 1) 0 - getD starts l 0) table after possible
+  pub evaluating-next : (first table after : List ℕ) (l from before possible : ℕ) → l < levels → from ≡ getD starts l 0 → Evaluating first table before l
+      → LevelClosed heads positive negated from (getD starts (l + 1) 0 - from) table after possible
       → Evaluating first after possible (l + 1)
-  evaluating-next first table after l before possible less c s = record {
+  evaluating-next first table after l from before possible less e c s = record {
     long = s .long;
     covers = s .covers;
-    each = λ t i a b. levels-next-at levels heads positive negated starts l less (lane table t i) (lane after t i) _ (s .each t i a b) (c .each t i a b);
+    each = λ t i a b. levels-next-at levels heads positive negated starts l less (lane table t i) (lane after t i) _ (closed .each t i a b) (c .each t i a b);
   }
+    where
+      closed : LevelClosed heads positive negated (getD starts l 0) (getD starts (l + 1) 0 - getD starts l 0) table after possible
+      closed = subst (λ (x : ℕ). LevelClosed heads positive negated x (getD starts (l + 1) 0 - x) table after possible) e s
 
-  pub evaluating-done : (first table : List ℕ) (possible l : ℕ) → levels ≤ l → Evaluating first table possible l
-      → Evaluated levels heads positive negated starts first table
-  evaluating-done first table possible l done c = record {
+  pub evaluating-done : Ordered levels starts → (first table : List ℕ) (possible l from : ℕ) → Reached levels starts l from → getD starts levels 0 ≤ from
+      → Evaluating first table possible l → Evaluated levels heads positive negated starts first table
+  evaluating-done o first table possible l from r z c = record {
     long = c .long;
-    each = λ t i a b. levels-done-at levels heads positive negated starts l done (lane table t i) _ (c .each t i a b);
+    each = λ t i a b. levels-end-at levels starts o heads positive negated l from r z (lane table t i) _ (c .each t i a b);
   }

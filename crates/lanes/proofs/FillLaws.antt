@@ -8,6 +8,7 @@ use lib.Count.{trailingZeros}
 use lib.ListN.{getD, length, replicate}
 use native.Mathlib.Omega.{arith}
 use Rattle.atoms.specs.Sets.{Subset, bit, union}
+use Rattle.atoms.proofs.LowestLaws.{lowest-fits, rest-less}
 use Rattle.atoms.proofs.SetLaws.{bit-empty, bit-lt, bit-one, bit-union, union-empty}
 use Rattle.lane_table.specs.LaneSets.{EachLane, Splat}
 use Rattle.lane_table.specs.Tables.{Stored, lane, offset}
@@ -15,7 +16,7 @@ use Rattle.lane_table.specs.declared.lane_set.LaneSet.{LaneSet}
 use Rattle.lane_table.proofs.BitLaws.{bit-other, full-bit}
 use Rattle.lane_table.proofs.LaneLaws.{lane-is, stored-lane}
 use Rattle.lane_fixpoint.specs.Passes.{Covers}
-use Rattle.lane_fixpoint.proofs.LowestLaws.{lowest-fits, rest-less, union-lowest}
+use Rattle.lane_fixpoint.proofs.LowestLaws.{union-lowest}
 use Rattle.lanes.specs.Candidates.{Blank, Uniform}
 
 -- the atoms of `left` are still to be filled in

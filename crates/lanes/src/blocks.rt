@@ -1,5 +1,5 @@
 // A block of 256 candidates: which of them unlock a request.
-ghost use Rattle.records.specs.Levels.{levelCount};
+ghost use Rattle.arrays.specs.Arrays.{levelCount};
 ghost use Rattle.preference.specs.InArrays.{Searchable};
 ghost use Rattle.lanes.specs.Blocks.{Unlocking};
 use crate::candidates::fill;

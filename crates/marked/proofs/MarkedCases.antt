@@ -2,7 +2,7 @@
 use mathlib.Core.Path.{_≡_, ap, refl, subst, sym}
 use mathlib.Core.Logic.{_⊎_, inl, inr}
 use mathlib.Core.Bool.{true}
-use mathlib.Core.List.{List, [], _∷_}
+use mathlib.Core.List.{[], _∷_}
 use mathlib.Core.Option.{orElse}
 use Prim.Native.Nat.{_<_, _^_, ℕ}
 use lib.Count.{onesIn}
@@ -17,12 +17,13 @@ use Rattle.rules.specs.Unlocking.{Unlocks, unlocks}
 use Rattle.rules.specs.Weights.{weightAmong}
 use Rattle.rules.specs.Model.{closureBy, consequences, model, passBy, times}
 use Rattle.rules.specs.Stable.{Closed, reduct}
+use Rattle.strata.specs.Strata.{above, stratifiable, stratum}
 use Rattle.records.specs.Policies.{policyOf}
 use Rattle.records.specs.Records.{ofKind, readRecord, recordsFrom, recordsOf, rulesOf}
 use Rattle.records.specs.Writing.{_if_not_, disclose_if_, writeRecord}
 use Rattle.form.proofs.PolicyLaws.{disclosure-heads, unlocks-iff}
 use Rattle.form.specs.WrittenForm.{WellFormed}
-use Rattle.form.specs.PolicyTest.{accessLevels, forAtoms, policyRefusal, policyTests, testsFrom}
+use Rattle.form.specs.PolicyTest.{policyRefusal, policyTests, testsFrom}
 use Rattle.form.proofs.TheoremsProof as form
 use Rattle.disclosure.proofs.DisclosureLaws.{disclosable-iff}
 use Rattle.disclosure.specs.Disclosure.{askable, disclosable}
@@ -43,7 +44,7 @@ use Rattle.marked.specs.Marked.{Marked, Witness, answers, lines, policyA
 
 -- everything that a case computes with
 computed : Unit {0}
-unfolding _if_not_ disclose_if_ writeRecord bytesOf setOf littleEndian readRecord forAtoms accessLevels firstFailed relabelled testsFrom
+unfolding _if_not_ disclose_if_ writeRecord bytesOf setOf littleEndian readRecord above stratum stratifiable firstFailed relabelled testsFrom
     policyTests policyRefusal orElse recordsFrom recordsOf ofKind rulesOf reduct times passBy closureBy consequences model disclosable askable unlocks modelAnswer
     disclosableAnswer onesIn size subsets lexBefore preferred candidates chosen totalIn weightAmong ending worked openingTests sessionRefusal roundRefusal round run opening acceptedOf
     Each reply turns answers lines policyA policyB
@@ -129,6 +130,15 @@ marked = record {
   unlocked = (refl, refl);
   disclosed = refl;
   f = refl;
+  f-itself = refl;
+  f-loop = refl;
+  f-two-negations = refl;
+  f-positive-loop = refl;
+  f-chain = refl;
+  f-model = refl;
+  f-two-sided = refl;
+  f-never = refl;
+  f-last = refl;
   g = refl;
   h = refl;
   i = refl;

@@ -10,10 +10,11 @@ use Rattle.rules.specs.Model.{closureBy, consequences, model, passBy, times}
 use Rattle.rules.specs.Stable.{reduct}
 use Rattle.rules.specs.Unlocking.{unlocks}
 use Rattle.rules.specs.Weights.{weightAmong}
+use Rattle.strata.specs.Strata.{above, stratifiable, stratum}
 use Rattle.records.specs.Policies.{unweighted}
 use Rattle.records.specs.Records.{ofKind, readRecord, recordsFrom, recordsOf, rulesOf}
 use Rattle.records.specs.Writing.{_if_not_, disclose_if_, credential_weighing_, writeRecord}
-use Rattle.form.specs.PolicyTest.{accessLevels, forAtoms, policyRefusal, policyTests, testsFrom, weighs}
+use Rattle.form.specs.PolicyTest.{policyRefusal, policyTests, testsFrom, weighs}
 use Rattle.disclosure.specs.Disclosure.{disclosable}
 use Rattle.preference.specs.Preference.{lexBefore, preferred, subsets}
 use Rattle.preference.specs.Question.{candidates, chosen}
@@ -25,7 +26,7 @@ use Rattle.marked.specs.Marked.{answers, turns}
 use Rattle.marked.specs.Weighted.{Weighted, askedInTurn, threeWays}
 
 pub weighted : Weighted
-unfolding _if_not_ disclose_if_ credential_weighing_ writeRecord bytesOf setOf littleEndian readRecord forAtoms accessLevels weighs firstFailed relabelled testsFrom
+unfolding _if_not_ disclose_if_ credential_weighing_ writeRecord bytesOf setOf littleEndian readRecord above stratum stratifiable weighs firstFailed relabelled testsFrom
     policyTests policyRefusal orElse recordsFrom recordsOf ofKind unweighted rulesOf reduct times passBy closureBy consequences model disclosable unlocks onesIn size
     subsets lexBefore preferred candidates chosen totalIn weightAmong ending worked roundRefusal round run turns answers threeWays askedInTurn
 weighted = record {
@@ -43,5 +44,8 @@ weighted = record {
   negated = refl;
   equal-record = refl;
   too-heavy-again = refl;
+  before-6 = refl;
+  again-before-6 = refl;
+  counted-by-6 = refl;
   disclosed = refl;
 }

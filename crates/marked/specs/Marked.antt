@@ -9,7 +9,7 @@ use Rattle.validation.specs.Unless.{given}
 use Rattle.atoms.specs.Sets.{empty, intersection, setOf, union}
 use Rattle.rules.specs.Unlocking.{unlocks}
 use Rattle.records.specs.Policies.{policyOf}
-use Rattle.records.specs.Writing.{_if_not_, disclose_if_}
+use Rattle.records.specs.Writing.{_if_not_, disclose_if_, writeRecord}
 use Rattle.form.specs.WrittenForm.{at}
 use Rattle.form.specs.PolicyTest.{policyRefusal}
 use Rattle.disclosure.specs.Answers.{disclosableAnswer}
@@ -93,8 +93,23 @@ pub record Marked : Type 0 where
   -- beside them: {0, 1} and {2} unlock 16 by policy A, which discloses all of {0, 1, 2} where nothing is shown
   pub unlocked : (unlocksBy policyA 16 (setOf (0 ∷ 1 ∷ [])) ≡ true) × (unlocksBy policyA 16 (setOf (2 ∷ [])) ≡ true)
   pub disclosed : disclosableAnswer policyA empty ≡ given (setOf (0 ∷ 1 ∷ 2 ∷ []))
-  -- "(f) 17 if not 24: record refused 6"
-  pub f : policyRefusal (17 if [] not (24 ∷ [])) ≡ some (at 6 0)
+  -- "(f) 17 if not 24", of document 01; document 02, R-4: "Case (f) is now accepted; a rule "17 if not 17" is refused.", with the count of records
+  pub f : policyRefusal (17 if [] not (24 ∷ [])) ≡ none
+  pub f-itself : policyRefusal (17 if [] not (17 ∷ [])) ≡ some (at 6 1)
+  -- beside them: a loop through a negation is refused, however long, with the count of all records; a loop without one is accepted; and so is a chain of
+  -- negations that goes against the numbers
+  pub f-loop : policyRefusal ((disclose 0 if []) ++ (17 if 18 ∷ [] not []) ++ (18 if [] not (19 ∷ [])) ++ (19 if 17 ∷ [] not [])) ≡ some (at 6 4)
+  pub f-two-negations : policyRefusal ((17 if [] not (18 ∷ [])) ++ (18 if [] not (17 ∷ []))) ≡ some (at 6 2)
+  pub f-positive-loop : policyRefusal ((17 if 18 ∷ [] not []) ++ (18 if 17 ∷ [] not [])) ≡ none
+  pub f-chain : policyRefusal ((16 if [] not (17 ∷ [])) ++ (17 if [] not (18 ∷ [])) ++ (18 if [] not (19 ∷ []))) ≡ none
+  -- the model follows the levels that are found: of 19 nothing is known, so 18 holds, 17 does not, and 16 does
+  pub f-model : modelAnswer ((16 if [] not (17 ∷ [])) ++ (17 if [] not (18 ∷ [])) ++ (18 if [] not (19 ∷ []))) empty ≡ given (setOf (16 ∷ 18 ∷ []))
+  -- rules that never apply take part all the same: with a two-sided body, and with an atom that nothing concludes
+  pub f-two-sided : policyRefusal (17 if 18 ∷ [] not (17 ∷ 18 ∷ [])) ≡ some (at 6 1)
+  pub f-never : policyRefusal (17 if 18 ∷ [] not (17 ∷ [])) ≡ some (at 6 1)
+  -- 6 comes after all records: a 3 at record 1 comes first
+  pub f-last : policyRefusal ((17 if [] not (17 ∷ [])) ++ (writeRecord (record { kind = 4; rule = record { head = 0; positive = 0; negated = 0 } })))
+      ≡ some (at 3 1)
   -- "(g) 24 if not 23: accepted"
   pub g : policyRefusal (24 if [] not (23 ∷ [])) ≡ none
   -- "(h) 16 if 23: accepted"

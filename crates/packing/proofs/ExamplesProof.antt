@@ -11,9 +11,10 @@ use Rattle.rules.specs.Model.{closureBy, consequences, model, passBy, times}
 use Rattle.rules.specs.Stable.{reduct}
 use Rattle.rules.specs.Unlocking.{unlocks}
 use Rattle.rules.specs.Weights.{weightAmong}
+use Rattle.strata.specs.Strata.{above, stratifiable, stratum}
 use Rattle.records.specs.Records.{ofKind, readRecord, recordsFrom, recordsOf, rulesOf}
 use Rattle.records.specs.Writing.{_if_not_, disclose_if_, writeRecord}
-use Rattle.form.specs.PolicyTest.{accessLevels, forAtoms, policyRefusal, policyTests, testsFrom}
+use Rattle.form.specs.PolicyTest.{policyRefusal, policyTests, testsFrom}
 use Rattle.disclosure.specs.Disclosure.{disclosable}
 use Rattle.preference.specs.Preference.{lexBefore, preferred, subsets}
 use Rattle.preference.specs.Question.{candidates, chosen}
@@ -53,7 +54,7 @@ abbrev shown : List Visit
 shown = visits policyA (0x0000 ∷ 0x0000 ∷ 0x0003 ∷ 0x0000 ∷ [])
 
 visited : visitsOf (opened 16) shown ≡ turns
-unfolding _if_not_ disclose_if_ writeRecord bytesOf setOf littleEndian readRecord forAtoms accessLevels firstFailed relabelled testsFrom policyTests
+unfolding _if_not_ disclose_if_ writeRecord bytesOf setOf littleEndian readRecord above stratum stratifiable firstFailed relabelled testsFrom policyTests
     policyRefusal recordsFrom recordsOf ofKind rulesOf reduct times passBy closureBy consequences model disclosable unlocks onesIn size subsets lexBefore
     preferred candidates chosen totalIn weightAmong ending worked roundRefusal round run policyA turn turns
 visited = refl
@@ -71,8 +72,8 @@ called =
 -- ---- all of them
 
 pub examples : Examples
-unfolding _if_not_ disclose_if_ writeRecord bytesOf setOf littleEndian readRecord forAtoms accessLevels firstFailed relabelled testsFrom policyTests
+unfolding _if_not_ disclose_if_ writeRecord bytesOf setOf littleEndian readRecord above stratum stratifiable firstFailed relabelled testsFrom policyTests
     policyRefusal recordsFrom recordsOf ofKind rulesOf reduct times passBy closureBy consequences model disclosable unlocks onesIn size subsets lexBefore
     preferred candidates chosen totalIn weightAmong ending worked roundRefusal round run openingTests opening policyA packed unpacked checkReply openCall roundCall callsFrom
     turn turns
-examples = record { opened = refl; unopened = refl; a = called; b = refl; f = refl; no-session = refl }
+examples = record { opened = refl; unopened = refl; a = called; b = refl; f = refl; f-itself = refl; no-session = refl }

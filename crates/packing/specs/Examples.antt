@@ -33,7 +33,8 @@ pub record Examples : Type 0 where
   -- "(b) empty policy, request 16: deny in round 1", with credentials 13 and 15 shown
   pub b : callsFrom fresh16 (visits [] (0xa000 ∷ []))
       ≡ record { reply = 0x0200; leaves = 0x10 ∷ 0x00 ∷ 0x00 ∷ 0xa0 ∷ 0x00 ∷ 0x00 ∷ 1 ∷ 3 ∷ 0x00 ∷ 0x00 ∷ [] } ∷ []
-  -- "(f) 17 if not 24: record refused 6", after a record that is not
-  pub f : checkReply ((16 if [] not []) ++ (17 if [] not (24 ∷ []))) ≡ 0x0106
+  -- "Case (f) is now accepted; a rule "17 if not 17" is refused.", with the count of records: here both come after a record that is accepted by itself
+  pub f : checkReply ((16 if [] not []) ++ (17 if [] not (24 ∷ []))) ≡ 0
+  pub f-itself : checkReply ((16 if [] not []) ++ (17 if [] not (17 ∷ []))) ≡ 0x0206
   -- what is no session
   pub no-session : callsFrom junk (visits policyA (0x0000 ∷ [])) ≡ record { reply = 8; leaves = junk } ∷ []

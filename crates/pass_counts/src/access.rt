@@ -1,6 +1,5 @@
 // The access rules, closed over level by level from one set.
-ghost use Rattle.records.specs.Levels.{levelCount};
-ghost use Rattle.arrays.specs.Arrays.{Placed};
+ghost use Rattle.arrays.specs.Arrays.{Placed, levelCount};
 use crate::print;
 use arrays::LEVELS;
 use arrays::Starts;
@@ -22,7 +21,7 @@ pub(crate) fn closed<'a>(
     print::set(b" model ", model.bits, 16);
 }
 
-// One level after another.
+// One level after another, as far as there are rules.
 fn levels<'a>(
     heads: &'a [u64; 128],
     positive: &'a [u64; 128],
@@ -32,15 +31,17 @@ fn levels<'a>(
 ) -> AtomSet
     requires { ⌜ Placed levelCount (now heads) (now starts) ⌝ }
 {
+    let end = starts[LEVELS];
     let mut set = credentials;
     let mut level: usize = 0;
-    while level < LEVELS {
-        let from = starts[level];
+    let mut from = starts[0];
+    while from < end {
         let to = starts[level + 1];
         let fixpoint = close(heads, positive, negated, from, to, set);
         print::count(fixpoint.passes);
         set = fixpoint.set;
         level += 1;
+        from = to;
     }
     set
 }

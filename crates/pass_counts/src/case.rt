@@ -1,5 +1,5 @@
 // One case: a name, a set of credentials and a policy.
-ghost use Rattle.form.specs.WrittenForm.{WellFormed};
+ghost use Rattle.policy.specs.Types.{AcceptedWith};
 use crate::access;
 use crate::disclosure;
 use crate::print;
@@ -8,7 +8,7 @@ use atoms::AtomSet;
 use layout::access_rules;
 use libc::STDIN_FILENO;
 use policy::Checked;
-use policy::check;
+use policy::examine;
 
 // Reads a case and prints its line; false if there is none left, or no room for it.
 pub(crate) fn run(space: &mut [u8]) -> bool {
@@ -57,21 +57,23 @@ fn joined(low: u8, high: u8) -> u16 {
 // The rest of the line.
 fn line(policy: &[u8], credentials: u16) {
     print::set(b" credentials ", credentials as u64, 4);
-    let checked = check(policy);
+    let examined = examine(policy);
+    let levels = examined.levels;
+    let checked = examined.checked;
     let Checked::Refused(refusal) = checked else {
-        return counts(policy, credentials);
+        return counts(policy, &levels, credentials);
     };
     print::refused(refusal);
 }
 
-// The counts of an accepted policy.
-fn counts(policy: &[u8], credentials: u16)
-    requires { ⌜ WellFormed (now policy) ⌝ }
+// The counts of an accepted policy, whose access rules keep these levels.
+fn counts<'a>(policy: &'a [u8], levels: &'a [u8; 64], credentials: u16)
+    requires { ⌜ AcceptedWith (now policy) (now levels) ⌝ }
 {
     let mut heads = [1u64; 128];
     let mut positive = [0u64; 128];
     let mut negated = [0u64; 128];
-    let starts = access_rules(policy, &mut heads, &mut positive, &mut negated);
+    let starts = access_rules(policy, levels, &mut heads, &mut positive, &mut negated);
     let shown = AtomSet::credentials(credentials);
     access::closed(&heads, &positive, &negated, &starts, shown);
     disclosure::closed(policy, shown);

@@ -1,8 +1,7 @@
 // The access rules, closed over level by level from 256 sets at once.
 ghost use mathlib.Core.Path.{_≡_};
 ghost use lib.ListN.{length};
-ghost use Rattle.records.specs.Levels.{levelCount};
-ghost use Rattle.arrays.specs.Arrays.{Placed};
+ghost use Rattle.arrays.specs.Arrays.{Placed, levelCount};
 use crate::print;
 use crate::start::fill;
 use arrays::LEVELS;
@@ -24,7 +23,7 @@ pub(crate) fn closed<'a>(
     levels(&mut table, heads, positive, negated, starts);
 }
 
-// One level after another.
+// One level after another, as far as there are rules.
 fn levels<'a>(
     table: &'a mut [u64; 768],
     heads: &'a [u64; 128],
@@ -34,12 +33,14 @@ fn levels<'a>(
 )
     requires { ⌜ Placed levelCount (now heads) (now starts) × (length (now table) ≡ 768) ⌝ }
 {
+    let end = starts[LEVELS];
     let mut level: usize = 0;
-    while level < LEVELS {
-        let from = starts[level];
+    let mut from = starts[0];
+    while from < end {
         let to = starts[level + 1];
         let fixpoint = lane_fixpoint::close(table, heads, positive, negated, from, to, u64::MAX);
         print::count(fixpoint.passes);
         level += 1;
+        from = to;
     }
 }

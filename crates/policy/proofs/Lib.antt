@@ -1,7 +1,7 @@
 -- What the test's steps and types come to.
-pub mod LevelSetLaws
 pub mod KindLaws
 pub mod WeighedLaws
 pub mod LoopLaws
+pub mod WholeLaws
 pub mod TypeLaws
 pub mod TheoremsProof

@@ -1,5 +1,10 @@
 -- What the program's types mean: the papers' number and values for each case. Assumes nothing.
+use mathlib.Core.Path.{_≡_}
+use mathlib.Core.List.{List}
 use mathlib.Core.Option.{Option, none, some}
+use Prim.Native.Nat.{ℕ}
+use Rattle.records.specs.Policies.{policyOf}
+use Rattle.levels.specs.Levels.{Levels}
 use Rattle.form.specs.WrittenForm as W
 use Rattle.policy.specs.declared.Checked.{Checked}
 use Rattle.policy.specs.declared.Checked.the-variants.{Accepted, Refused}
@@ -20,3 +25,12 @@ refusalOf (SecondWeight k) = W.at 13 k
 abbrev pub checkedOf : Checked → Option W.Refusal
 checkedOf Accepted = none
 checkedOf (Refused f) = some (refusalOf f)
+
+-- an accepted policy, and levels that its access rules keep
+pub record AcceptedWith (bytes of : List ℕ) : Type 0 where
+  pub form : W.WellFormed bytes
+  pub levels : Levels (policyOf bytes .access) of
+
+-- where the policy is accepted, levels that its access rules keep
+abbrev pub LevelsFound : List ℕ → Option W.Refusal → List ℕ → Type 0
+LevelsFound bytes o of = o ≡ none → Levels (policyOf bytes .access) of

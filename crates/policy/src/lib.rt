@@ -1,18 +1,21 @@
-// The policy's test (document 01, "Who can be turned back"; weights: document 02, R-2).
+// The policy's test (document 01, "Who can be turned back"; weights: document 02, R-2; levels: R-4).
 ghost use mathlib.Core.Path.{_≡_};
+ghost use mathlib.Core.Option.{none, some};
 ghost use Prim.Native.Nat.{_*_, _≤_};
 ghost use lib.ListN.{length};
 ghost use Rattle.validation.specs.Tests.{firstFailed};
-ghost use Rattle.form.specs.PolicyTest.{policyRefusal, testsFrom};
+ghost use Rattle.records.specs.Records.{wholeRecords};
+ghost use Rattle.levels.specs.Levels.{AccessHeads};
+ghost use Rattle.form.specs.PolicyTest.{policyRefusal, testsFrom, wholeTests};
 ghost use Rattle.form.specs.Theorems.{Tested};
-ghost use Rattle.policy.specs.Types.{checkedOf};
+ghost use Rattle.policy.specs.Types.{AcceptedWith, LevelsFound, checkedOf, refusalOf};
 use atoms::AtomSet;
+use levels::find_levels;
 use records::record_at;
 use refusal::Refusal;
 use tests::check_record;
 use weights::with_weighed;
 
-mod levels;
 pub mod refusal;
 mod tests;
 mod weights;
@@ -26,22 +29,69 @@ pub enum Checked {
     Refused(Refusal),
 }
 
+// What the policy's test answers, and a level for each atom, which an accepted policy's access rules keep.
+pub struct Examined {
+    pub checked: Checked,
+    pub levels: [u8; 64],
+}
+
 // The policy's test: accepted, or the first refusal that applies.
 pub fn check(policy: &[u8]) -> Checked
     ensures answer { λ r. ⌜ checkedOf r ≡ policyRefusal (now (policy .entry)) ⌝ }
     ensures meaning { λ r. ⌜ Tested (now (policy .entry)) (checkedOf r) ⌝ }
     ensures unchanged { λ _. ⌜ now (policy .exit) ≡ now (policy .entry) ⌝ }
 {
+    let examined = examine(policy);
+    examined.checked
+}
+
+// The same, with the levels that the test has found.
+pub fn examine(policy: &[u8]) -> Examined
+    ensures answer { λ r. ⌜ checkedOf (r .checked) ≡ policyRefusal (now (policy .entry)) ⌝ }
+    ensures levels { λ r. ⌜ (checkedOf (r .checked) ≡ none → AcceptedWith (now (policy .entry)) (r .levels)) ⌝ }
+    ensures unchanged { λ _. ⌜ now (policy .exit) ≡ now (policy .entry) ⌝ }
+{
     let bytes = policy.len();
     if bytes > MOST_BYTES {
-        return Checked::Refused(Refusal::TooLong);
+        return refused(Refusal::TooLong);
     }
     let records = bytes / 18;
     if bytes % 18 != 0 {
         let whole = records as u8;
-        return Checked::Refused(Refusal::NotWhole(whole));
+        return refused(Refusal::NotWhole(whole));
     }
-    check_records(policy, records)
+    let checked = check_records(policy, records);
+    let Checked::Refused(refusal) = checked else {
+        return levelled(policy, records);
+    };
+    refused(refusal)
+}
+
+fn refused(refusal: Refusal) -> Examined
+    ensures { λ r. ⌜ checkedOf (r .checked) ≡ some (refusalOf refusal) ⌝ }
+{
+    Examined {
+        checked: Checked::Refused(refusal),
+        levels: [0u8; 64],
+    }
+}
+
+// The last test: the access rules have levels.
+fn levelled(policy: &[u8], records: usize) -> Examined
+    requires { ⌜ AccessHeads (now policy) × ((records ≡ wholeRecords (now policy)) × (records ≤ 128)) ⌝ }
+    ensures answer { λ r. ⌜ checkedOf (r .checked) ≡ firstFailed (wholeTests (now (policy .entry))) ⌝ }
+    ensures levels { λ r. ⌜ LevelsFound (now (policy .entry)) (checkedOf (r .checked)) (r .levels) ⌝ }
+{
+    let found = find_levels(policy);
+    if !found.found {
+        let number = records as u8;
+        return refused(Refusal::Level(number));
+    }
+    let levels = found.of;
+    Examined {
+        checked: Checked::Accepted,
+        levels,
+    }
 }
 
 // The first refusal of the first `records` records, which are there.

@@ -1,9 +1,9 @@
-// Refusals of a policy, and the papers' numbers for them (document 01; 12 and 13: document 02, R-2).
+// Refusals of a policy, and the papers' numbers for them (document 01; 12 and 13: document 02, R-2; 6: R-4).
 ghost use mathlib.Core.Path.{_≡_};
 ghost use Rattle.form.specs.WrittenForm.{recordNumber, refusalNumber};
 ghost use Rattle.policy.specs.Types.{refusalOf};
 
-// Why a policy is refused: each case but the first with the record's number, counted from 0.
+// Why a policy is refused: each case but the first with a record's number, counted from 0, or a number of records.
 pub enum Refusal {
     // More than 2,304 bytes.
     TooLong,
@@ -15,7 +15,7 @@ pub enum Refusal {
     Head(u8),
     // A body atom that the kind does not allow.
     Body(u8),
-    // A body atom on too high a level.
+    // No levels for the access rules, with the number of records.
     Level(u8),
     // A weight above 15, or with a negated set.
     Weight(u8),

@@ -1,4 +1,4 @@
-// The tests of one record: refusals 3 to 6, 12 and 13.
+// The tests of one record: refusals 3 to 5, 12 and 13.
 ghost use mathlib.Core.Path.{_≡_};
 ghost use mathlib.Core.List.{[], _∷_};
 ghost use Rattle.validation.specs.Tests.{firstFailed};
@@ -6,7 +6,6 @@ ghost use Rattle.records.specs.Types.{recordOf};
 ghost use Rattle.form.specs.PolicyTest.{AnswersRecord, accessBody, accessHead, atRecord, credentialHead, disclosureBody};
 ghost use Rattle.policy.specs.Types.{checkedOf};
 use crate::Checked;
-use crate::levels::access_levels;
 use crate::refusal::Refusal;
 use crate::weights::weight_body;
 use crate::weights::weight_failed;
@@ -25,13 +24,8 @@ pub(crate) fn check_record(parsed: Record, k: u8, weighed: AtomSet) -> Checked
 {
     let kind = parsed.kind;
     match kind {
-        ACCESS => first_failed(
-            access_head(parsed),
-            access_body(parsed),
-            access_levels(parsed),
-            k,
-        ),
-        DISCLOSURE => first_failed(credential_head(parsed), disclosure_body(parsed), true, k),
+        ACCESS => first_failed(access_head(parsed), access_body(parsed), k),
+        DISCLOSURE => first_failed(credential_head(parsed), disclosure_body(parsed), k),
         WEIGHT => weight_failed(
             credential_head(parsed),
             weight_body(parsed),
@@ -43,17 +37,14 @@ pub(crate) fn check_record(parsed: Record, k: u8, weighed: AtomSet) -> Checked
 }
 
 // The refusal of the first test that fails, at record k.
-fn first_failed(head: bool, body: bool, levels: bool, k: u8) -> Checked
-    ensures { λ r. ⌜ checkedOf r ≡ firstFailed (atRecord k ((head, 4) ∷ (body, 5) ∷ (levels, 6) ∷ [])) ⌝ }
+fn first_failed(head: bool, body: bool, k: u8) -> Checked
+    ensures { λ r. ⌜ checkedOf r ≡ firstFailed (atRecord k ((head, 4) ∷ (body, 5) ∷ [])) ⌝ }
 {
     if !head {
         return Checked::Refused(Refusal::Head(k));
     }
     if !body {
         return Checked::Refused(Refusal::Body(k));
-    }
-    if !levels {
-        return Checked::Refused(Refusal::Level(k));
     }
     Checked::Accepted
 }

@@ -15,11 +15,12 @@ use Rattle.atoms.proofs.SetLaws.{difference-iff, true-disjoint, union-empty}
 use Rattle.rules.specs.Model.{model}
 use Rattle.rules.specs.Policy.{Policy}
 use Rattle.rules.specs.Unlocking.{grants, unlocks}
-use Rattle.records.specs.Levels.{level, levelCount}
 use Rattle.records.specs.Policies.{policyOf}
-use Rattle.form.specs.WrittenForm.{Refusal, WellFormed}
+use Rattle.levels.specs.Levels.{levelAt}
+use Rattle.form.specs.WrittenForm.{Refusal}
 use Rattle.form.specs.PolicyTest.{policyRefusal}
-use Rattle.arrays.specs.Arrays.{LaidOut, evaluated}
+use Rattle.policy.specs.Types.{AcceptedWith}
+use Rattle.arrays.specs.Arrays.{LaidOut, evaluated, levelCount}
 use Rattle.layout.proofs.AccessLaws.{access-model}
 use Rattle.preference.specs.Candidates.{switched}
 use Rattle.preference.specs.InArrays.{opensAt, opensIn}
@@ -76,14 +77,15 @@ module _ (levels : ℕ) (h p m s : List ℕ) (r P D : ℕ) (small : D < 2 ^ 16) 
 
 -- ---- an accepted policy's rules in arrays; x says whether the shown credentials C unlock the request
 
-module _ (bytes : List ℕ) (b : Bytes bytes) (w : WellFormed bytes) (h p m s : List ℕ) (l : LaidOut level levelCount (policyOf bytes .access) h p m s)
+module _ (bytes : List ℕ) (b : Bytes bytes) (of : List ℕ) (w : AcceptedWith bytes of) (h p m s : List ℕ)
+    (l : LaidOut (levelAt of) levelCount (policyOf bytes .access) h p m s)
     (r P C : ℕ) (e : C ≡ P) (x : Bool) (is : x ≡ grants r (evaluated levelCount h p m s C)) where
   abbrev pol : Policy
   pol = policyOf bytes
 
   unlocked : x ≡ unlocks pol r P
   unfolding unlocks
-  unlocked = is ∙ ap (grants r) (access-model bytes b w h p m s l C ∙ ap (model (pol .access)) e)
+  unlocked = is ∙ ap (grants r) (access-model bytes b (w .form) of (w .levels) h p m s l C ∙ ap (model (pol .access)) e)
 
   -- asking nothing does not unlock it either
   pub locked-alone : x ≡ false → opensIn levelCount h p m s r P noQuestion ≡ false
@@ -96,7 +98,7 @@ module _ (bytes : List ℕ) (b : Bytes bytes) (w : WellFormed bytes) (h p m s : 
   pub replies-locked : x ≡ false → (D : ℕ) (ws : List ℕ) (limit : ℕ) → foundReply (opensIn levelCount h p m s r P) D ws limit ≡ acceptedReply (policyOf bytes) r P D ws limit
   unfolding acceptedReply unlocks
   replies-locked f D ws limit =
-      same-found (opensIn levelCount h p m s r P) (opensWith pol r P) (λ q. ap (grants r) (access-model bytes b w h p m s l (union P (q .asks)))) D ws limit
+      same-found (opensIn levelCount h p m s r P) (opensWith pol r P) (λ q. ap (grants r) (access-model bytes b (w .form) of (w .levels) h p m s l (union P (q .asks)))) D ws limit
       ∙ ap (λ (y : Bool). cond y 0 (foundReply (opensWith pol r P) D ws limit)) (sym f ∙ unlocked)
 
 -- ---- the tests before it

@@ -10,8 +10,9 @@ use Rattle.atoms.specs.Sets.{difference, disjoint, size}
 use Rattle.rules.specs.Policy.{Policy}
 use Rattle.rules.specs.Unlocking.{unlocks}
 use Rattle.records.specs.Policies.{policyOf}
-use Rattle.form.specs.WrittenForm.{Refusal, WellFormed}
+use Rattle.form.specs.WrittenForm.{Refusal}
 use Rattle.form.specs.PolicyTest.{policyRefusal}
+use Rattle.policy.specs.Types.{AcceptedWith}
 use Rattle.preference.specs.Order.{Result, costOf, found, nothing, searched, spent}
 use Rattle.preference.specs.OrderTheorems.{questionAt}
 use Rattle.preference.specs.Question.{Question, opensWith}
@@ -31,9 +32,9 @@ foundReply test D weights limit = resultReply (subsetOf D) (searched (costOf wei
 unfoldable pub acceptedReply : Policy → ℕ → ℕ → ℕ → List ℕ → ℕ → ℕ
 acceptedReply pol r P D weights limit = cond (unlocks pol r P) 0 (foundReply (opensWith pol r P) D weights limit)
 
--- an accepted policy, a request that is an atom, and nothing of what may be asked shown
-pub record ProbeInput (policy : List ℕ) (request shown within : ℕ) : Type 0 where
-  pub form : WellFormed policy
+-- an accepted policy with levels, a request that is an atom, and nothing of what may be asked shown
+pub record ProbeInput (policy levels : List ℕ) (request shown within : ℕ) : Type 0 where
+  pub form : AcceptedWith policy levels
   pub atom : request ≤ violation
   pub apart : disjoint shown within ≡ true
 

@@ -2,8 +2,8 @@
 ghost use mathlib.Core.Path.{_≡_};
 ghost use Prim.Native.Nat.{_<_, _^_, _≤_};
 ghost use Rattle.atoms.specs.Sets.{difference};
-ghost use Rattle.records.specs.Levels.{levelCount};
 ghost use Rattle.records.specs.Policies.{policyOf};
+ghost use Rattle.arrays.specs.Arrays.{levelCount};
 ghost use Rattle.preference.specs.Candidates.{switched};
 ghost use Rattle.preference.specs.InArrays.{LockedRequest, opensIn};
 ghost use Rattle.preference.specs.Order.{trials};
@@ -16,7 +16,7 @@ use atoms::LAST_DERIVED;
 use evaluation::levels::unlocks;
 use layout::access_rules;
 use policy::Checked;
-use policy::check;
+use policy::examine;
 use question::members::write_members;
 use search::candidate::switched;
 use search::first;
@@ -44,7 +44,9 @@ pub extern "C" fn probe_search(
     ensures answer { λ r. ⌜ r ≡ searchReply (now (policy .entry)) request shown within (now (weights .entry)) limit ⌝ }
     ensures unchanged { λ _. ⌜ (now (policy .exit) ≡ now (policy .entry)) × (now (weights .exit) ≡ now (weights .entry)) ⌝ }
 {
-    let checked = check(policy);
+    let examined = examine(policy);
+    let levels = examined.levels;
+    let checked = examined.checked;
     let Checked::Accepted = checked else {
         return REFUSED;
     };
@@ -56,26 +58,27 @@ pub extern "C" fn probe_search(
     }
     let service = request as u8;
     let rest = without(within, shown);
-    accepted(policy, service, shown, rest, weights, limit)
+    accepted(policy, &levels, service, shown, rest, weights, limit)
 }
 
-// Under an accepted policy. Nothing of what may be asked is shown.
-fn accepted(
-    policy: &[u8],
+// Under an accepted policy, whose access rules keep these levels. Nothing of what may be asked is shown.
+fn accepted<'a>(
+    policy: &'a [u8],
+    levels: &'a [u8; 64],
     request: u8,
     shown: u16,
     within: u16,
     weights: &[u8; 16],
     limit: u32,
 ) -> u64
-    requires { ⌜ ProbeInput (now policy) request shown within ⌝ }
+    requires { ⌜ ProbeInput (now policy) (now levels) request shown within ⌝ }
     ensures { λ r.
         ⌜ r ≡ acceptedReply (policyOf (now (policy .entry))) request shown within (now (weights .entry)) limit ⌝ }
 {
     let mut heads = [1u64; 128];
     let mut positive = [0u64; 128];
     let mut negated = [0u64; 128];
-    let starts = access_rules(policy, &mut heads, &mut positive, &mut negated);
+    let starts = access_rules(policy, levels, &mut heads, &mut positive, &mut negated);
     let credentials = AtomSet::credentials(shown);
     if unlocks(&heads, &positive, &negated, &starts, request, credentials) {
         return OPEN;

@@ -1,7 +1,7 @@
 // The question: the preferred one of what may be asked (document 01, "Sessions"; document 02, R-2).
 ghost use mathlib.Core.Path.{_≡_};
 ghost use Prim.Native.Nat.{_≤_};
-ghost use Rattle.records.specs.Levels.{levelCount};
+ghost use Rattle.arrays.specs.Arrays.{levelCount};
 ghost use Rattle.preference.specs.InArrays.{LockedRequest, preferredIn};
 ghost use Rattle.question.specs.Types.{resultAsks, foundOf};
 use arrays::Starts;

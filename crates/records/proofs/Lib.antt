@@ -1,6 +1,5 @@
--- The laws of records, of levels, of rules and of what is written.
+-- The laws of records, of rules and of what is written.
 pub mod ReadLaws
-pub mod LevelLaws
 pub mod RuleLaws
 pub mod KindLaws
 pub mod WritingLaws

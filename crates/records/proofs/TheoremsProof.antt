@@ -2,7 +2,6 @@
 use mathlib.Core.Path.{refl}
 use Rattle.records.specs.Theorems.{Theorems}
 use Rattle.records.proofs.KindLaws.{unweighted-iff, weights-aside}
-use Rattle.records.proofs.LevelLaws.{level-atom, level-down}
 use Rattle.records.proofs.PutLaws.{as-long, others, written-there}
 use Rattle.records.proofs.RuleLaws.{every-before, every-whole, whole-records}
 use Rattle.records.proofs.TypeLaws.{record-one}
@@ -10,9 +9,6 @@ use Rattle.records.proofs.WritingLaws.{written}
 
 pub theorems : Theorems
 theorems = record {
-  levels = level-down;
-  top = refl;
-  atoms = level-atom;
   whole-records = whole-records;
   written = written;
   written-there = written-there;

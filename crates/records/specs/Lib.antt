@@ -1,7 +1,6 @@
 -- What a policy's bytes say, in the order of reading.
 pub mod Records
 pub mod Policies
-pub mod Levels
 pub mod Types
 pub mod Writing
 pub mod Theorems

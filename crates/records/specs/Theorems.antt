@@ -1,14 +1,12 @@
--- The theorems of records: levels; how many whole records there are; what is written is what is read; a policy's rules are those of all its records
--- of that kind; what a round reads of a policy. Assumes nothing.
+-- The theorems of records: how many whole records there are; what is written is what is read; a policy's rules are those of all its records of that
+-- kind; what a round reads of a policy. Assumes nothing.
 use mathlib.Core.Path.{_≡_}
 use mathlib.Core.Logic.{_↔_, _≢_}
 use mathlib.Core.List.{List}
 use Prim.Native.Nat.{_*_, _+_, _<_, _^_, _≤_, ℕ}
 use lib.ListN.{length}
 use Rattle.lists.specs.Lists.{Every}
-use Rattle.atoms.specs.Atoms.{violation}
 use Rattle.rules.specs.Rules.{Rule}
-use Rattle.records.specs.Levels.{level, levelCount}
 use Rattle.records.specs.Policies.{policyOf, unweighted}
 use Rattle.records.specs.Records.{Record, recordAt, recordsBefore, recordsOf, rulesOf, wholeRecords}
 use Rattle.records.specs.Types.{recordOf}
@@ -21,11 +19,6 @@ pub record Sized (d : Record) : Type 0 where
   pub negated : d .rule .negated < 2 ^ 64
 
 pub record Theorems : Type 1 where
-  -- "The level of atoms 0 to 62 is the number divided by 8, rounded down; of 63 it is 8."
-  pub levels : (a : ℕ) → a < violation → (8 * level a ≤ a) × (a < 8 * level a + 8)
-  pub top : level violation ≡ 8
-  -- each atom is on one of the levels below `levelCount`
-  pub atoms : (a : ℕ) → a ≤ violation → level a < levelCount
   -- "number of whole records": so many of 18 bytes each are there, and not one more
   pub whole-records : (bytes : List ℕ) (k : ℕ) → (wholeRecords bytes ≡ k) ↔ ((18 * k ≤ length bytes) × (length bytes < 18 * k + 18))
   -- the records that are read are those that were written, in order and none else

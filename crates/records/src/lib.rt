@@ -1,4 +1,4 @@
-// What a policy's bytes say: records, read and written, and levels (document 01, "Atoms and records"; weights: document 02, R-2).
+// What a policy's bytes say: records, read and written (document 01, "Atoms and records"; weights: document 02, R-2).
 ghost use mathlib.Core.Path.{_≡_};
 ghost use Prim.Native.Nat.{_*_, _+_, _<_, _≤_};
 ghost use lib.ListN.{length};
@@ -6,8 +6,6 @@ ghost use Rattle.encoding.specs.LittleEndian.{wordOf};
 ghost use Rattle.records.specs.Records.{readPart, recordAt};
 ghost use Rattle.records.specs.Types.{recordOf};
 use atoms::AtomSet;
-
-pub mod level;
 
 pub const ACCESS: u8 = 1;
 

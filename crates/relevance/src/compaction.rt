@@ -1,8 +1,7 @@
 // The rules whose heads are in a set, each moved to the next place.
 ghost use mathlib.Core.Path.{_≡_};
 ghost use Prim.Native.Nat.{_+_, _<_};
-ghost use Rattle.records.specs.Levels.{levelCount};
-ghost use Rattle.arrays.specs.Arrays.{OneAtom, Placed, Span};
+ghost use Rattle.arrays.specs.Arrays.{OneAtom, Placed, Span, levelCount};
 ghost use Rattle.relevance.specs.Places.{KeptIn, StartsMoved, room, roomBefore};
 use crate::LevelRules;
 use arrays::LEVELS;

@@ -1,6 +1,5 @@
 // The rules that bear on a request (document 004, "Removing Irrelevant Rules"): the others are left out, and no answer changes.
-ghost use Rattle.records.specs.Levels.{levelCount};
-ghost use Rattle.arrays.specs.Arrays.{Placed};
+ghost use Rattle.arrays.specs.Arrays.{Placed, levelCount};
 ghost use Rattle.relevance.specs.Places.{SameAnswer};
 use arrays::LEVELS;
 use arrays::Starts;

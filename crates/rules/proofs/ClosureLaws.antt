@@ -8,8 +8,9 @@ use lib.ListN.{length}
 use native.Mathlib.Nat.{add-le-add}
 use native.Mathlib.Omega.{arith}
 use Rattle.lists.specs.Lists.{Every}
+use Rattle.lists.proofs.ListLaws.{every-imp, every-imp₂}
 use Rattle.atoms.specs.Sets.{Member, Subset, bit, single, union}
-use Rattle.atoms.proofs.SetLaws.{bit-lt, in-or-out, member-single, single-own, subset-antisym, union-cases, union-left, union-right}
+use Rattle.atoms.proofs.SetLaws.{bit-lt, in-or-out, member-single, single-cases, single-own, subset-antisym, union-cases, union-left, union-right}
 use Rattle.rules.specs.Model.{closureBy, times, passBy}
 use Rattle.rules.specs.Rules.{Headed, Rule}
 
@@ -65,7 +66,11 @@ module _ (on : Rule → ℕ → Bool) where
   abbrev pub Keeps : (ℕ → Type 0) → Rule → Type 0
   Keeps Q r = (S : ℕ) → ((k : ℕ) → Member k S → Q k) → on r S ≡ true → Q (r .head)
 
-  fire-within : (Q : ℕ → Type 0) (r : Rule) (S : ℕ) → ((k : ℕ) → Member k S → Q k) → Keeps Q r → (k : ℕ) → Member k (fire r S) → Q k
+  -- a rule whose head is no atom adds nothing
+  abbrev pub KeepsHeaded : (ℕ → Type 0) → Rule → Type 0
+  KeepsHeaded Q r = Headed r → Keeps Q r
+
+  fire-within : (Q : ℕ → Type 0) (r : Rule) (S : ℕ) → ((k : ℕ) → Member k S → Q k) → KeepsHeaded Q r → (k : ℕ) → Member k (fire r S) → Q k
   unfolding fire
   fire-within Q r S hS hr = go (on r S) refl
     where
@@ -74,7 +79,7 @@ module _ (on : Rule → ℕ → Bool) where
         where
           pick : Member k S ⊎ Member k (single (r .head)) → Q k
           pick (inl i) = hS k i
-          pick (inr i) = subst Q (sym (member-single (r .head) k i)) (hr S hS e)
+          pick (inr i) = let (same, low) = single-cases (r .head) k i in subst Q (sym same) (hr low S hS e)
       go false e k m = hS k m
 
   -- either the rule adds nothing, or its head is new
@@ -109,7 +114,7 @@ module _ (on : Rule → ℕ → Bool) where
   pass-grows [] S k m = m
   pass-grows (r ∷ rs) S k m = pass-grows rs (fire r S) k (fire-grows r S k m)
 
-  pass-within : (Q : ℕ → Type 0) (rs : List Rule) (S : ℕ) → ((k : ℕ) → Member k S → Q k) → Every (Keeps Q) rs
+  pass-within : (Q : ℕ → Type 0) (rs : List Rule) (S : ℕ) → ((k : ℕ) → Member k S → Q k) → Every (KeepsHeaded Q) rs
       → (k : ℕ) → Member k (passBy on rs S) → Q k
   unfolding passBy fire
   pass-within Q [] S hS h = hS
@@ -142,24 +147,30 @@ module _ (on : Rule → ℕ → Bool) where
           inr (omega (arith, lacking-falls rs S X grows))
 
   -- a pass that adds nothing: the set is closed
-  pub idle-kept : (rs : List Rule) → Every Headed rs → (S : ℕ) → passBy on rs S ≡ S → KeptBy S rs
+  idle-kept-headed : (rs : List Rule) (S : ℕ) → passBy on rs S ≡ S → Every (λ r. Headed r → on r S ≡ true → Member (r .head) S) rs
   unfolding passBy fire
-  idle-kept [] h S e = tt
-  idle-kept (r ∷ rs) h S e = (λ f. subst (λ (x : ℕ). Member (r .head) x) same (own (on r S) f), idle-kept rs (h .1) S (sym (ap (passBy on rs) same) ∙ e))
+  idle-kept-headed [] S e = tt
+  idle-kept-headed (r ∷ rs) S e =
+      (λ l f. subst (λ (x : ℕ). Member (r .head) x) same (own l (on r S) f), idle-kept-headed rs S (sym (ap (passBy on rs) same) ∙ e))
     where
       same : fire r S ≡ S
       same = subset-antisym (λ k m. subst (λ (x : ℕ). Member k x) e (pass-grows rs (fire r S) k m)) (fire-grows r S)
 
-      own : (b : Bool) → b ≡ true → Member (r .head) (cond b (union S (single (r .head))) S)
-      own true f = union-right S (single (r .head)) (r .head) (single-own (r .head) (h .0))
-      own false f = absurd (true≢false (sym f))
+      own : Headed r → (b : Bool) → b ≡ true → Member (r .head) (cond b (union S (single (r .head))) S)
+      own l true f = union-right S (single (r .head)) (r .head) (single-own (r .head) l)
+      own l false f = absurd (true≢false (sym f))
+
+  pub idle-kept : (rs : List Rule) → Every Headed rs → (S : ℕ) → passBy on rs S ≡ S → KeptBy S rs
+  idle-kept rs h S e =
+      every-imp₂ Headed (λ r. Headed r → on r S ≡ true → Member (r .head) S) (λ r. on r S ≡ true → Member (r .head) S) (λ r l f. f l) rs h
+      (idle-kept-headed rs S e)
 
   times-grows : (n : ℕ) (rs : List Rule) (S : ℕ) → Subset S (times n (passBy on rs) S)
   unfolding times
   times-grows zero rs S k m = m
   times-grows (suc n) rs S k m = times-grows n rs (passBy on rs S) k (pass-grows rs S k m)
 
-  times-within : (Q : ℕ → Type 0) (n : ℕ) (rs : List Rule) (S : ℕ) → ((k : ℕ) → Member k S → Q k) → Every (Keeps Q) rs
+  times-within : (Q : ℕ → Type 0) (n : ℕ) (rs : List Rule) (S : ℕ) → ((k : ℕ) → Member k S → Q k) → Every (KeepsHeaded Q) rs
       → (k : ℕ) → Member k (times n (passBy on rs) S) → Q k
   unfolding times
   times-within Q zero rs S hS h = hS
@@ -202,10 +213,18 @@ module _ (on : Rule → ℕ → Bool) where
   unfolding closureBy
   closureBy-grows rs C = times-grows _ rs C
 
+  pub closureBy-kept-headed : (rs : List Rule) (C : ℕ)
+      → Every (λ r. Headed r → on r (closureBy on rs C) ≡ true → Member (r .head) (closureBy on rs C)) rs
+  closureBy-kept-headed rs C = idle-kept-headed rs (closureBy on rs C) (closureBy-idle rs C)
+
   pub closureBy-kept : (rs : List Rule) → Every Headed rs → (C : ℕ) → KeptBy (closureBy on rs C) rs
   closureBy-kept rs h C = idle-kept rs h (closureBy on rs C) (closureBy-idle rs C)
 
-  pub closureBy-within : (Q : ℕ → Type 0) (rs : List Rule) (C : ℕ) → ((k : ℕ) → Member k C → Q k) → Every (Keeps Q) rs
+  pub closureBy-within-headed : (Q : ℕ → Type 0) (rs : List Rule) (C : ℕ) → ((k : ℕ) → Member k C → Q k) → Every (KeepsHeaded Q) rs
       → (k : ℕ) → Member k (closureBy on rs C) → Q k
   unfolding closureBy
-  closureBy-within Q rs C = times-within Q _ rs C
+  closureBy-within-headed Q rs C = times-within Q _ rs C
+
+  pub closureBy-within : (Q : ℕ → Type 0) (rs : List Rule) (C : ℕ) → ((k : ℕ) → Member k C → Q k) → Every (Keeps Q) rs
+      → (k : ℕ) → Member k (closureBy on rs C) → Q k
+  closureBy-within Q rs C h q = closureBy-within-headed Q rs C h (every-imp (Keeps Q) (KeepsHeaded Q) (λ r k _. k) rs q)

@@ -42,10 +42,10 @@ module _ (lev : ℕ → ℕ) where
   below-most zero l = omega arith
   below-most (suc n) l = omega (arith, below-most n l)
 
-  rank : ℕ → ℕ
+  pub rank : ℕ → ℕ
   rank k = below 64 (lev k)
 
-  ranked : (r : Rule) → Stratified lev r → Ranked rank 63 r
+  pub ranked : (r : Rule) → Stratified lev r → Ranked rank 63 r
   unfolding rank
   ranked r h = record {
     levelled = record {

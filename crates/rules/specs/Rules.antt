@@ -1,4 +1,5 @@
 -- Document 01, "Atoms and records": a rule, as the model and disclosure read it. Assumes nothing.
+use mathlib.Core.Logic.{_⊎_}
 use Prim.Native.Nat.{_<_, _^_, _≤_, ℕ}
 use Rattle.atoms.specs.Atoms.{violation}
 use Rattle.atoms.specs.Sets.{Member}
@@ -12,6 +13,10 @@ pub record Rule : Type 0 where
 -- "Atoms are numbered 0 to 63": the head is an atom
 abbrev pub Headed : Rule → Type 0
 Headed r = r .head ≤ violation
+
+-- the atom stands in the body, on either side
+abbrev pub InBody : ℕ → Rule → Type 0
+InBody k r = Member k (r .positive) ⊎ Member k (r .negated)
 
 -- "no positive atom's level is above the head's, and every negated atom's level is smaller than the head's", whatever number `lev` gives each atom
 pub record Levelled (lev : ℕ → ℕ) (r : Rule) : Type 0 where

@@ -3,7 +3,7 @@
 ghost use mathlib.Core.Path.{_≡_};
 ghost use Prim.Native.Nat.{ℕ, _*_, _+_, _-_, _<_, _^_, _≤_, min};
 ghost use lib.ListN.{getD, length};
-ghost use Rattle.records.specs.Levels.{levelCount};
+ghost use Rattle.arrays.specs.Arrays.{levelCount};
 ghost use Rattle.preference.specs.InArrays.{Searchable, opensAt};
 ghost use Rattle.preference.specs.Order.{costOf, searched};
 ghost use Rattle.ranking.specs.Keys.{never, widened};

@@ -2,7 +2,7 @@
 ghost use mathlib.Core.Path.{_≡_};
 ghost use mathlib.Core.Bool.{false};
 ghost use Prim.Native.Nat.{_^_};
-ghost use Rattle.records.specs.Levels.{levelCount};
+ghost use Rattle.arrays.specs.Arrays.{levelCount};
 ghost use Rattle.preference.specs.InArrays.{Searchable, opensAt};
 ghost use Rattle.preference.specs.Order.{costOf, searched};
 ghost use Rattle.search.specs.Types.{resultOf};

@@ -1,8 +1,7 @@
 // The candidates of few members, one by one.
 ghost use mathlib.Core.Path.{_≡_};
 ghost use Prim.Native.Nat.{_<_, _^_, _≤_};
-ghost use Rattle.records.specs.Levels.{levelCount};
-ghost use Rattle.arrays.specs.Arrays.{Placed};
+ghost use Rattle.arrays.specs.Arrays.{Placed, levelCount};
 ghost use Rattle.preference.specs.InArrays.{opensAt};
 ghost use Rattle.preference.specs.Order.{costOf, searched};
 ghost use Rattle.search.specs.Singles.{BestLane, FewMembers, Tried, turnOf};

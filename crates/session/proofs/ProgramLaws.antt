@@ -18,11 +18,12 @@ use Rattle.rules.specs.Model.{model}
 use Rattle.rules.specs.Policy.{Policy}
 use Rattle.rules.specs.Unlocking.{grants, unlocks}
 use Rattle.rules.specs.Weights.{WeightTable}
-use Rattle.records.specs.Levels.{level, levelCount}
 use Rattle.records.specs.Policies.{policyOf}
+use Rattle.levels.specs.Levels.{levelAt}
 use Rattle.form.specs.PolicyTest.{policyRefusal}
 use Rattle.form.specs.WrittenForm as W
-use Rattle.arrays.specs.Arrays.{LaidOut, evaluated}
+use Rattle.policy.specs.Types.{AcceptedWith}
+use Rattle.arrays.specs.Arrays.{LaidOut, evaluated, levelCount}
 use Rattle.layout.proofs.AccessLaws.{access-levels, access-model}
 use Rattle.disclosure.specs.Disclosure.{disclosable}
 use Rattle.preference.specs.InArrays.{opensIn, preferredIn}
@@ -38,12 +39,13 @@ use Rattle.rounds.proofs.RefusalLaws.{refusal-parts, session-none}
 
 -- ---- the ending, from rules in arrays
 
-module _ (bytes : List ℕ) (b : Bytes bytes) (w : W.WellFormed bytes) (h p m s : List ℕ) (l : LaidOut level levelCount (policyOf bytes .access) h p m s) (r P N : ℕ) where
+module _ (bytes : List ℕ) (b : Bytes bytes) (of : List ℕ) (w : AcceptedWith bytes of) (h p m s : List ℕ)
+    (l : LaidOut (levelAt of) levelCount (policyOf bytes .access) h p m s) (r P N : ℕ) where
   -- x says whether the shown credentials C unlock the request
   module _ (C : ℕ) (e : C ≡ P) (x : Bool) (is : x ≡ grants r (evaluated levelCount h p m s C)) where
     unlocked : x ≡ unlocks (policyOf bytes) r P
     unfolding unlocks
-    unlocked = is ∙ ap (grants r) (access-model bytes b w h p m s l C ∙ ap (model (policyOf bytes .access)) e)
+    unlocked = is ∙ ap (grants r) (access-model bytes b (w .form) of (w .levels) h p m s l C ∙ ap (model (policyOf bytes .access)) e)
 
     pub ends-grant : x ≡ true → grant ≡ ending (policyOf bytes) r P N
     unfolding ending
@@ -58,7 +60,7 @@ module _ (bytes : List ℕ) (b : Bytes bytes) (w : W.WellFormed bytes) (h p m s 
         → o ≡ preferredIn levelCount h p m s r P D ws → conclude false o ≡ ending (policyOf bytes) r P N
     unfolding ending
     ends-found f D d ws t o is =
-        ap (conclude false) (is ∙ chosen-laid level levelCount (policyOf bytes) (access-levels bytes b w) h p m s ws l t r P D ∙ ap (chosen (policyOf bytes) r P) d)
+        ap (conclude false) (is ∙ chosen-laid (levelAt of) levelCount (policyOf bytes) (access-levels bytes b (w .form) of (w .levels)) h p m s ws l t r P D ∙ ap (chosen (policyOf bytes) r P) d)
         ∙ ap (λ (y : Bool). conclude y (chosen (policyOf bytes) r P (obtainable (policyOf bytes) P N))) (sym f ∙ unlocked)
 
 -- nothing of what may be asked is shown

@@ -3,7 +3,7 @@ ghost use mathlib.Core.Path.{_≡_};
 ghost use mathlib.Core.Option.{none};
 ghost use Prim.Native.Nat.{_≤_};
 ghost use Rattle.records.specs.Policies.{policyOf};
-ghost use Rattle.form.specs.WrittenForm.{WellFormed};
+ghost use Rattle.policy.specs.Types.{AcceptedWith};
 ghost use Rattle.rounds.specs.RoundTest.{sessionRefusal};
 ghost use Rattle.rounds.specs.Rounds.{decided, worked};
 ghost use Rattle.rounds.specs.Sessions.{Service};
@@ -25,19 +25,24 @@ pub(crate) struct Working {
     ended: Ending,
 }
 
-// A round of a session that the tests accept, under an accepted policy.
-pub(crate) fn accepted_round(session: Session, policy: &[u8], taken: Move) -> Outcome
-    requires { ⌜ WellFormed (now policy) × (sessionRefusal (sessionOf session) (moveOf taken) ≡ none) ⌝ }
+// A round of a session that the tests accept, under an accepted policy, whose access rules keep these levels.
+pub(crate) fn accepted_round<'a>(
+    session: Session,
+    policy: &'a [u8],
+    levels: &'a [u8; 64],
+    taken: Move,
+) -> Outcome
+    requires { ⌜ AcceptedWith (now policy) (now levels) × (sessionRefusal (sessionOf session) (moveOf taken) ≡ none) ⌝ }
     ensures { λ r.
         ⌜ outcomeOf r ≡ decided (sessionOf session) (worked (policyOf (now (policy .entry))) (sessionOf session) (moveOf taken)) ⌝ }
 {
-    let working = worked(session, policy, taken);
+    let working = worked(session, policy, levels, taken);
     decided(session, working)
 }
 
 // What was asked and is not shown now is declined.
-fn worked(session: Session, policy: &[u8], taken: Move) -> Working
-    requires { ⌜ WellFormed (now policy) × Service (session .request) ⌝ }
+fn worked<'a>(session: Session, policy: &'a [u8], levels: &'a [u8; 64], taken: Move) -> Working
+    requires { ⌜ AcceptedWith (now policy) (now levels) × Service (session .request) ⌝ }
     ensures { λ r. ⌜ workingOf r ≡ worked (policyOf (now (policy .entry))) (sessionOf session) (moveOf taken) ⌝ }
 {
     let phase = session.phase;
@@ -45,7 +50,7 @@ fn worked(session: Session, policy: &[u8], taken: Move) -> Working
     let shows = taken.shows;
     let shown = session.shown | shows;
     let declined = session.declined | without(asked, shows);
-    let ended = ending(policy, session.request, shown, declined);
+    let ended = ending(policy, levels, session.request, shown, declined);
     Working {
         shown,
         declined,

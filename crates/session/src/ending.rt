@@ -4,6 +4,7 @@ ghost use mathlib.Core.Bool.{false};
 ghost use Rattle.atoms.specs.Sets.{difference};
 ghost use Rattle.records.specs.Policies.{policyOf};
 ghost use Rattle.form.specs.WrittenForm.{WellFormed};
+ghost use Rattle.policy.specs.Types.{AcceptedWith};
 ghost use Rattle.question.specs.Types.{foundOf};
 ghost use Rattle.rounds.specs.Endings.{conclude, ending, obtainable};
 ghost use Rattle.rounds.specs.Rounds.{phaseAfter};
@@ -20,15 +21,21 @@ use question::Found;
 use question::preferred;
 use weights::weight_table;
 
-// Under an accepted policy, once these credentials are shown and declined.
-pub(crate) fn ending(policy: &[u8], request: u16, shown: u16, declined: u16) -> Ending
-    requires { ⌜ WellFormed (now policy) × Service request ⌝ }
+// Under an accepted policy, whose access rules keep these levels, once these credentials are shown and declined.
+pub(crate) fn ending<'a>(
+    policy: &'a [u8],
+    levels: &'a [u8; 64],
+    request: u16,
+    shown: u16,
+    declined: u16,
+) -> Ending
+    requires { ⌜ AcceptedWith (now policy) (now levels) × Service request ⌝ }
     ensures { λ r. ⌜ endingOf r ≡ ending (policyOf (now (policy .entry))) request shown declined ⌝ }
 {
     let mut heads = [1u64; 128];
     let mut positive = [0u64; 128];
     let mut negated = [0u64; 128];
-    let starts = access_rules(policy, &mut heads, &mut positive, &mut negated);
+    let starts = access_rules(policy, levels, &mut heads, &mut positive, &mut negated);
     let service = request as u8;
     let credentials = AtomSet::credentials(shown);
     if unlocks(&heads, &positive, &negated, &starts, service, credentials) {

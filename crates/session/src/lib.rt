@@ -1,7 +1,7 @@
 // Sessions: opening and rounds (document 01, "Sessions").
 ghost use mathlib.Core.Path.{_≡_};
 ghost use Rattle.records.specs.Policies.{policyOf};
-ghost use Rattle.form.specs.WrittenForm.{WellFormed};
+ghost use Rattle.policy.specs.Types.{AcceptedWith};
 ghost use Rattle.rounds.specs.RoundTest.{sessionRefusal};
 ghost use Rattle.rounds.specs.Rounds.{opening, respond, round, turnedBack};
 ghost use Rattle.demands.specs.Promises.{OpeningMeets, RoundMeets};
@@ -9,7 +9,7 @@ ghost use Rattle.session.specs.Types.{moveOf, openedOf, outcomeOf, refus
 use accepted::accepted_round;
 use answer::Answer;
 use policy::Checked;
-use policy::check;
+use policy::examine;
 use question::Question;
 use refusal::Refusal;
 use sound::is_service;
@@ -87,23 +87,30 @@ impl Session {
         ensures meaning { λ r. ⌜ RoundMeets (now (policy .entry)) (sessionOf self) (moveOf taken) (outcomeOf r) ⌝ }
         ensures unchanged { λ _. ⌜ now (policy .exit) ≡ now (policy .entry) ⌝ }
     {
-        let checked = check(policy);
+        let examined = examine(policy);
+        let levels = examined.levels;
+        let checked = examined.checked;
         let Checked::Refused(refusal) = checked else {
-            return tested_round(self, policy, taken);
+            return tested_round(self, policy, &levels, taken);
         };
         refused(self, Refusal::Policy(refusal))
     }
 }
 
-// A round under an accepted policy: refused by the session, or worked out.
-fn tested_round(session: Session, policy: &[u8], taken: Move) -> Outcome
-    requires { ⌜ WellFormed (now policy) ⌝ }
+// A round under an accepted policy, whose access rules keep these levels: refused by the session, or worked out.
+fn tested_round<'a>(
+    session: Session,
+    policy: &'a [u8],
+    levels: &'a [u8; 64],
+    taken: Move,
+) -> Outcome
+    requires { ⌜ AcceptedWith (now policy) (now levels) ⌝ }
     ensures { λ r.
         ⌜ outcomeOf r ≡ respond (sessionRefusal (sessionOf session) (moveOf taken)) (policyOf (now (policy .entry))) (sessionOf session) (moveOf taken) ⌝ }
 {
     let tested = test(session, taken);
     let Admission::Refused(refusal) = tested else {
-        return accepted_round(session, policy, taken);
+        return accepted_round(session, policy, levels, taken);
     };
     refused(session, refusal)
 }

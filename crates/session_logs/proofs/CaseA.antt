@@ -12,9 +12,10 @@ use Rattle.rules.specs.Model.{closureBy, consequences, model, passBy, times}
 use Rattle.rules.specs.Stable.{reduct}
 use Rattle.rules.specs.Unlocking.{unlocks}
 use Rattle.rules.specs.Weights.{weightAmong}
+use Rattle.strata.specs.Strata.{above, stratifiable, stratum}
 use Rattle.records.specs.Records.{ofKind, readRecord, recordsFrom, recordsOf, rulesOf}
 use Rattle.records.specs.Writing.{_if_not_, disclose_if_, writeRecord}
-use Rattle.form.specs.PolicyTest.{accessLevels, forAtoms, policyRefusal, policyTests, testsFrom}
+use Rattle.form.specs.PolicyTest.{policyRefusal, policyTests, testsFrom}
 use Rattle.disclosure.specs.Disclosure.{disclosable}
 use Rattle.preference.specs.Preference.{lexBefore, preferred, subsets}
 use Rattle.preference.specs.Question.{candidates, chosen}
@@ -44,7 +45,7 @@ rounds =
     ∷ []
 
 played : roundsOf policyA (opened 16) (map showing (0x0000 ∷ 0x0000 ∷ 0x0003 ∷ 0x0000 ∷ [])) ≡ rounds
-unfolding _if_not_ disclose_if_ writeRecord bytesOf setOf littleEndian readRecord forAtoms accessLevels firstFailed relabelled testsFrom
+unfolding _if_not_ disclose_if_ writeRecord bytesOf setOf littleEndian readRecord above stratum stratifiable firstFailed relabelled testsFrom
     policyTests policyRefusal orElse recordsFrom recordsOf ofKind rulesOf reduct times passBy closureBy consequences model disclosable unlocks onesIn size
     subsets lexBefore preferred candidates chosen totalIn weightAmong ending worked sessionRefusal roundRefusal round run policyA turn rounds
 played = refl

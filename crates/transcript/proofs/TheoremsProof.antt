@@ -11,9 +11,10 @@ use Rattle.rules.specs.Unlocking.{unlocks}
 use Rattle.rules.specs.Model.{closureBy, consequences, model, passBy, times}
 use Rattle.rules.specs.Stable.{reduct}
 use Rattle.rules.specs.Weights.{weightAmong}
+use Rattle.strata.specs.Strata.{above, stratifiable, stratum}
 use Rattle.records.specs.Records.{ofKind, readRecord, recordsFrom, recordsOf, rulesOf}
 use Rattle.records.specs.Writing.{_if_not_, disclose_if_, writeRecord}
-use Rattle.form.specs.PolicyTest.{accessLevels, forAtoms, policyRefusal, policyTests, testsFrom}
+use Rattle.form.specs.PolicyTest.{policyRefusal, policyTests, testsFrom}
 use Rattle.disclosure.specs.Disclosure.{disclosable}
 use Rattle.preference.specs.Preference.{lexBefore, preferred, subsets}
 use Rattle.preference.specs.Question.{candidates, chosen}
@@ -33,7 +34,7 @@ use Rattle.transcript.proofs.StepLaws.{bytes-events, bytes-output, ende
 
 policy-A : output policyA (0x10 ∷ 0x00 ∷ 0x00 ∷ 0x00 ∷ 0x00 ∷ 0x00 ∷ 0x03 ∷ 0x00 ∷ [])
     ≡ ascii "round 1 got 0000 ask 0004\nround 2 got 0000 ask 0003\nround 3 got 0003 grant\n"
-unfolding _if_not_ disclose_if_ writeRecord bytesOf setOf littleEndian readRecord forAtoms accessLevels firstFailed relabelled testsFrom
+unfolding _if_not_ disclose_if_ writeRecord bytesOf setOf littleEndian readRecord above stratum stratifiable firstFailed relabelled testsFrom
     policyTests policyRefusal orElse recordsFrom recordsOf ofKind rulesOf reduct times passBy closureBy consequences model disclosable unlocks onesIn size
     subsets lexBefore preferred candidates chosen totalIn weightAmong ending worked openingTests sessionRefusal roundRefusal round run opening policyA output printed events inputRecords
     roundEvents roundLine refusedLine decimalIn digit hexadecimal flatMap

@@ -72,7 +72,7 @@ pub struct Plain;
 
 fn call_model(policy: &[u8], credentials: u16, memory: &mut Memory) -> Result<u32, Refusal> {
     let rules = check(policy)?;
-    memory.set_model(model(&rules.access, credentials));
+    memory.set_model(model(&rules.levels, credentials));
     Ok(0)
 }
 

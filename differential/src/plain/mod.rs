@@ -1,9 +1,10 @@
-//! Document 01, and document 02's logs and weights, in plain Rust, written from the papers alone: each function has the paper's
-//! sentence above it.
+//! Document 01, and document 02's logs, weights and levels, in plain Rust, written from the papers alone: each function has the
+//! paper's sentence above it.
 
 pub mod bench;
 pub mod disclosure;
 pub mod interface;
+pub mod levels;
 pub mod lists;
 pub mod log;
 pub mod model;

@@ -1,6 +1,7 @@
 //! The model ("The model"), level by level.
 
-use super::policy::{level, Record, BREACH};
+use super::levels::Levels;
+use super::policy::{Record, BREACH};
 
 /// A body holds if its positive atoms are in the set and none of its negated ones is among the finished lower levels.
 /// "An empty body always applies." "An atom may stand on both sides of a body; that rule never applies."
@@ -10,11 +11,11 @@ fn applies(rule: &Record, set: u64, finished: u64) -> bool {
 }
 
 /// The rules of one level, applied until nothing more comes.
-fn finish(access: &[Record], this: u8, finished: u64) -> u64 {
+fn finish(rules: &[Record], finished: u64) -> u64 {
     let mut set = finished;
     loop {
         let before = set;
-        for rule in access.iter().filter(|rule| level(rule.head) == this) {
+        for rule in rules {
             if applies(rule, set, finished) {
                 set |= 1 << rule.head;
             }
@@ -26,14 +27,13 @@ fn finish(access: &[Record], this: u8, finished: u64) -> u64 {
 }
 
 /// "For every accepted policy and every C just one stable set exists; that is the model."
-pub fn model(access: &[Record], credentials: u16) -> u64 {
-    (0..=8).fold(u64::from(credentials), |set, this| {
-        finish(access, this, set)
-    })
+pub fn model(levels: &Levels, credentials: u16) -> u64 {
+    let start = u64::from(credentials);
+    levels.iter().fold(start, |set, rules| finish(rules, set))
 }
 
 /// "C unlocks service r if r is in the model and 63 is not."
-pub fn unlocks(access: &[Record], service: u16, credentials: u16) -> bool {
-    let model = model(access, credentials);
+pub fn unlocks(levels: &Levels, service: u16, credentials: u16) -> bool {
+    let model = model(levels, credentials);
     model >> service & 1 == 1 && model >> BREACH & 1 == 0
 }

@@ -1,4 +1,6 @@
-//! Policies: records and the policy's test ("Atoms and records", "Who can be turned back"; document 02, R-2).
+//! Policies: records and the policy's test ("Atoms and records", "Who can be turned back"; document 02, R-2 and R-4).
+
+use super::levels::{levels, Levels};
 
 /// "63 is the breach mark"
 pub const BREACH: u8 = 63;
@@ -53,10 +55,11 @@ impl Refusal {
     }
 }
 
-/// An accepted policy's records of each kind, in their order.
+/// An accepted policy's records of each kind, in their order, and the access rules by level.
 #[derive(Clone, Default)]
 pub struct Policy {
     pub access: Vec<Record>,
+    pub levels: Levels,
     pub disclosure: Vec<Record>,
     pub weights: Vec<Record>,
 }
@@ -83,15 +86,6 @@ fn little_endian(bytes: &[u8]) -> u64 {
         .fold(0, |number, byte| number << 8 | u64::from(*byte))
 }
 
-/// "The level of atoms 0 to 62 is the number divided by 8, rounded down; of 63 it is 8."
-pub fn level(atom: u8) -> u8 {
-    if atom == BREACH {
-        8
-    } else {
-        atom / 8
-    }
-}
-
 /// "An access head is 16 to 63." "A disclosure head is 0 to 15"; kind 3 "has heads 0 to 15 by 4"
 fn head_allowed(record: &Record) -> bool {
     if record.kind == ACCESS {
@@ -110,14 +104,6 @@ fn body_allowed(record: &Record) -> bool {
     }
 }
 
-/// "In an access rule no positive atom's level is above the head's, and every negated atom's level is smaller than the head's."
-fn levels_kept(record: &Record) -> bool {
-    let head = level(record.head);
-    record.kind != ACCESS
-        || atoms(record.positive).all(|atom| level(atom) <= head)
-            && atoms(record.negative).all(|atom| level(atom) < head)
-}
-
 /// "12, weight above 15 or negated set not empty; 13, a second weight for one credential, even by an equal record come twice"
 fn weight_fault(record: &Record, earlier: &[Record]) -> Option<u8> {
     if record.positive > MOST_WEIGHT || record.negative != 0 {
@@ -129,8 +115,8 @@ fn weight_fault(record: &Record, earlier: &[Record]) -> Option<u8> {
     }
 }
 
-/// "3: kind neither 1 nor 2. 4: head not allowed for the kind. 5: body atom not allowed for the kind. 6: level broken." "Kind 3
-/// passes 3, has heads 0 to 15 by 4, and is tested by 12 and 13 instead of 5 and 6"
+/// "3: kind neither 1 nor 2. 4: head not allowed for the kind. 5: body atom not allowed for the kind." "Kind 3 passes 3, has heads
+/// 0 to 15 by 4, and is tested by 12 and 13 instead of 5 and 6"
 fn fault(record: &Record, earlier: &Policy) -> Option<u8> {
     if ![ACCESS, DISCLOSURE, WEIGHT].contains(&record.kind) {
         Some(3)
@@ -140,14 +126,12 @@ fn fault(record: &Record, earlier: &Policy) -> Option<u8> {
         weight_fault(record, &earlier.weights)
     } else if !body_allowed(record) {
         Some(5)
-    } else if !levels_kept(record) {
-        Some(6)
     } else {
         None
     }
 }
 
-/// The policy's test: "records are tested in turn, each by 3 to 6, so a 6 at record 0 comes before a 3 at record 1"
+/// The policy's test: "records are tested in turn"; 6 "after all records passed the rest, with the count of records as its number"
 pub fn check(policy: &[u8]) -> Result<Policy, Refusal> {
     if policy.len() > MOST_BYTES {
         return Err(Refusal::by_writer(1, 128));
@@ -167,5 +151,8 @@ pub fn check(policy: &[u8]) -> Result<Policy, Refusal> {
             _ => rules.weights.push(record),
         }
     }
-    Ok(rules)
+    match levels(&rules.access) {
+        Some(levels) => Ok(Policy { levels, ..rules }),
+        None => Err(Refusal::by_writer(6, policy.len() / RECORD_BYTES)),
+    }
 }

@@ -80,13 +80,13 @@ pub fn sound(session: &Session) -> bool {
 /// "if P unlocks the request, grant, closed; otherwise D is the disclosable set of P without P and without N; among subsets of D
 /// that with P unlock the request, the preferred one is asked and becomes Q; if there is none, deny, closed"
 pub fn ending(policy: &Policy, request: u16, shown: u16, declined: u16) -> Ending {
-    if unlocks(&policy.access, request, shown) {
+    if unlocks(&policy.levels, request, shown) {
         return Ending::Grant;
     }
     let may_ask = disclosable(&policy.disclosure, shown) & !shown & !declined;
     let found = by_preference(&weights(&policy.weights), may_ask)
         .into_iter()
-        .find(|asked| unlocks(&policy.access, request, shown | asked));
+        .find(|asked| unlocks(&policy.levels, request, shown | asked));
     match found {
         Some(asked) => Ending::Ask(asked),
         None => Ending::Deny,

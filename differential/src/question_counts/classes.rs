@@ -1,8 +1,8 @@
 //! What there is to be told of a question: which other candidates unlock, and where they lie.
 
 use crate::candidates::{block, number, subset, turn};
+use crate::plain::levels::Levels;
 use crate::plain::model::unlocks;
-use crate::plain::policy::Record;
 
 /// Classes of questions; each must come up.
 pub const CLASSES: [&str; 12] = [
@@ -22,7 +22,7 @@ pub const CLASSES: [&str; 12] = [
 
 /// A round that asks: the rules, the service, what is shown, what may be asked, and what is asked.
 pub struct Round<'a> {
-    pub access: &'a [Record],
+    pub levels: &'a Levels,
     pub service: u16,
     pub shown: u16,
     pub may_ask: u16,
@@ -35,7 +35,7 @@ fn unlocking(round: &Round) -> Vec<u16> {
     (1..=last)
         .filter(|n| {
             let set = round.shown | subset(*n, round.may_ask);
-            unlocks(round.access, round.service, set)
+            unlocks(round.levels, round.service, set)
         })
         .collect()
 }

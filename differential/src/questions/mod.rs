@@ -6,6 +6,7 @@ mod shapes;
 use crate::calls::{asked_of, ending_of, refusal_of, Memory, ASK};
 use crate::candidates::{number, subset};
 use crate::counts::Kind;
+use crate::leveling::renumber;
 use crate::plain::disclosure::disclosable;
 use crate::plain::interface::{decode, encode};
 use crate::plain::policy::Record;
@@ -48,7 +49,8 @@ pub fn made_policy(
     let lone = |size: &usize| wanted(random, Shape::Lone, members, *size)[0];
     let numbers: Vec<u16> = sizes.iter().map(lone).collect();
     let sets: Vec<u16> = numbers.iter().map(|n| subset(*n, sides.may_ask)).collect();
-    let records = records(random, &sides, service, &sets);
+    let mut records = records(random, &sides, service, &sets);
+    let service = renumber(random, &mut records)[usize::from(service)];
     let bytes = policies::encode(&records);
     (bytes, service.into(), sides.may_ask, sides.shown)
 }
@@ -88,7 +90,7 @@ fn count_classes(tester: &mut Tester, memory: Memory) {
     let (shown, declined) = (session.shown, session.declined);
     let may_ask = disclosable(&rules.disclosure, shown) & !shown & !declined;
     let found = classes(&Round {
-        access: &rules.access,
+        levels: &rules.levels,
         service: session.request,
         shown,
         may_ask,
@@ -133,6 +135,7 @@ fn made(
     let service = random.range(LEAST_SERVICE, 62) as u8;
     let sets: Vec<u16> = numbers.iter().map(|n| subset(*n, sides.may_ask)).collect();
     let mut records = records(random, &sides, service, &sets);
+    let service = renumber(random, &mut records)[usize::from(service)];
     records.extend(weights);
     let (session, p) = session(random, &sides, service.into())?;
     tester.set_policy(policies::encode(&records));

@@ -13,7 +13,7 @@ pub struct Sides {
     pub declined: u16,
 }
 
-/// Roles are 16 to 31, two for each set; the service is above them.
+/// Roles are 16 to 31, two for each set; the service is above them, before all are numbered anew.
 pub const LEAST_SERVICE: usize = 32;
 
 /// The rules by which one set, the k-th, unlocks; in some ways no larger set does.

@@ -1,6 +1,7 @@
 //! Versions that are wrong on purpose, each by one slip: the tests must find out every one of them.
 
 mod blocks;
+mod levels;
 mod log;
 mod model;
 mod names;
@@ -22,7 +23,7 @@ impl Slipped {
         }
         let rules = rules?;
         match call {
-            Call::Model(set) => memory.set_model(self.model(&rules.access, set)),
+            Call::Model(set) => memory.set_model(self.model(&rules.levels, set)),
             Call::Disclosable(set) => {
                 memory.set_credentials(self.disclosable(&rules.disclosure, set));
             }

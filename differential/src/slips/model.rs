@@ -2,27 +2,43 @@
 
 use super::names::{Slip, Slipped};
 use crate::plain::disclosure::disclosable;
-use crate::plain::policy::{level, Policy, Record};
+use crate::plain::levels::Levels;
+use crate::plain::policy::{Policy, Record};
 use crate::plain::session::Session;
 
 impl Slipped {
-    fn pass(&self, rules: &[&Record], set: u64, below: u64) -> u64 {
+    fn pass(&self, rules: &[Record], set: u64, below: u64) -> u64 {
         rules.iter().fold(set, |set, rule| {
             let holds = rule.positive & !set == 0 && rule.negative & (below | rule.positive) == 0;
             set | u64::from(holds) << rule.head
         })
     }
 
-    pub(super) fn model(&self, access: &[Record], credentials: u16) -> u64 {
+    /// All heads of a level, those taken out for which no rule is left that applies.
+    fn holding(rules: &[Record], below: u64) -> u64 {
+        let heads = rules.iter().fold(0, |set, rule| set | 1 << rule.head);
+        let mut set = below | heads;
+        loop {
+            let last = set;
+            let applies = |rule: &&Record| {
+                rule.positive & !last == 0 && rule.negative & (below | rule.positive) == 0
+            };
+            let held = rules.iter().filter(applies);
+            set = held.fold(below, |set, rule| set | 1 << rule.head);
+            if set == last {
+                return set;
+            }
+        }
+    }
+
+    /// One level after the other.
+    pub(super) fn model(&self, levels: &Levels, credentials: u16) -> u64 {
         let mut set = u64::from(credentials);
-        let levels = if self.is(Slip::NotTooEarly) {
-            0..1
-        } else {
-            0..9
-        };
-        for this in levels {
-            let of_level = |rule: &&Record| self.is(Slip::NotTooEarly) || level(rule.head) == this;
-            let rules: Vec<&Record> = access.iter().filter(of_level).collect();
+        for rules in levels {
+            if self.is(Slip::HoldsItself) {
+                set = Self::holding(rules, set);
+                continue;
+            }
             let below = set;
             let passes = match self.0 {
                 Slip::OnePass => 1,
@@ -31,12 +47,11 @@ impl Slipped {
             };
             for _ in 0..passes {
                 let last = set;
-                let read = if self.is(Slip::NotTooEarly) {
-                    set
-                } else {
-                    below
+                let read = match self.0 {
+                    Slip::NotTooEarly => set,
+                    _ => below,
                 };
-                set = self.pass(&rules, set, read);
+                set = self.pass(rules, set, read);
                 if set == last {
                     break;
                 }
@@ -49,12 +64,11 @@ impl Slipped {
         if !self.is(Slip::OnePassDisclosure) {
             return disclosable(rules, shown);
         }
-        let all: Vec<&Record> = rules.iter().collect();
-        self.pass(&all, shown.into(), 0) as u16
+        self.pass(rules, shown.into(), 0) as u16
     }
 
     pub(super) fn unlocks(&self, rules: &Policy, request: u16, set: u16) -> bool {
-        let model = self.model(&rules.access, set);
+        let model = self.model(&rules.levels, set);
         model >> request & 1 == 1 && (model >> 63 == 0 || self.is(Slip::BreachUnread))
     }
 

@@ -19,7 +19,7 @@ pub enum Slip {
     RefusesAll,
     CountBound,
     LengthBound,
-    PositiveLevel,
+    PositiveLoops,
     NegativeLevel,
     RecordOrder,
     LargestTie,
@@ -29,7 +29,6 @@ pub enum Slip {
     NineBeforeEight,
     PolicyLast,
     RequestCut,
-    BreachLevel,
     OnePass,
     OnePassDisclosure,
     HeadCut,
@@ -113,6 +112,30 @@ pub enum Slip {
     HeaviestMember,
     WeightAskable,
     WeightDiscloses,
+    ByNumber,
+    OwnHead,
+    OwnNot,
+    ShortNots,
+    NotsOnly,
+    ShortLoops,
+    OneSweep,
+    LastRule,
+    TwoSidedOut,
+    FiveBits,
+    TestedRecords,
+    NineLevels,
+    SixFirst,
+    SixBeforeWeights,
+    SixBeforeFive,
+    SixInTurn,
+    SixFirstRecord,
+    SixLastRecord,
+    SixAccess,
+    OrderOfNumbers,
+    OneSweepLevels,
+    NineOfLevels,
+    FallingLevels,
+    HoldsItself,
 }
 
 /// The same code with nothing wrong in it, its candidates sorted, and by blocks.
@@ -122,7 +145,7 @@ pub const CONTROLS: [(Slip, &str); 2] = [
 ];
 
 /// Each slip with what is wrong.
-pub const SLIPS: [(Slip, &str); 109] = [
+pub const SLIPS: [(Slip, &str); 132] = [
     (
         Slip::BreachUnread,
         "grants on the service alone, the breach mark unread",
@@ -156,17 +179,14 @@ pub const SLIPS: [(Slip, &str); 109] = [
     (Slip::RefusesAll, "refuses all comers"),
     (Slip::CountBound, "soundness: count up to 2 plus the ones"),
     (Slip::LengthBound, "2,304 bytes refused 1"),
-    (
-        Slip::PositiveLevel,
-        "positive atom of the head's own level refused 6",
-    ),
+    (Slip::PositiveLoops, "levels: positive loops refused 6"),
     (
         Slip::NegativeLevel,
-        "negated atom of the head's own level accepted",
+        "levels: a negated atom of the head's own level accepted",
     ),
     (
         Slip::RecordOrder,
-        "a 3 at record 1 comes before a 6 at record 0",
+        "a 3 at record 1 comes before a 5 at record 0",
     ),
     (Slip::LargestTie, "ties broken by the largest number"),
     (Slip::BigEndian, "sets read big-endian"),
@@ -181,7 +201,6 @@ pub const SLIPS: [(Slip, &str); 109] = [
     (Slip::NineBeforeEight, "an unsound closed session refused 9"),
     (Slip::PolicyLast, "7 to 9 tested before the policy"),
     (Slip::RequestCut, "the request cut to eight bits"),
-    (Slip::BreachLevel, "63 taken to be of level 7"),
     (Slip::OnePass, "one pass over each level of the model"),
     (
         Slip::OnePassDisclosure,
@@ -390,6 +409,75 @@ pub const SLIPS: [(Slip, &str); 109] = [
     (
         Slip::WeightDiscloses,
         "kind 3 taken for a disclosure rule too",
+    ),
+    (Slip::ByNumber, "levels: by number, as before"),
+    (
+        Slip::OwnHead,
+        "levels: a rule with its own head among what must hold refused 6",
+    ),
+    (
+        Slip::OwnNot,
+        "levels: 6 only where an atom is negated in a rule of its own",
+    ),
+    (
+        Slip::ShortNots,
+        "levels: 6 only where an atom negates itself or two negate each other",
+    ),
+    (
+        Slip::NotsOnly,
+        "levels: 6 only where a loop is of nothing but \"not\"",
+    ),
+    (
+        Slip::ShortLoops,
+        "levels: loops of more than eight atoms missed",
+    ),
+    (
+        Slip::OneSweep,
+        "levels: dependence followed in one sweep over the records",
+    ),
+    (
+        Slip::LastRule,
+        "levels: of the rules with one head only the last one tested",
+    ),
+    (Slip::TwoSidedOut, "levels: two-sided rules not tested"),
+    (
+        Slip::FiveBits,
+        "levels: credentials and derived atoms 32 apart taken for each other",
+    ),
+    (Slip::TestedRecords, "levels: record 127 not tested"),
+    (Slip::NineLevels, "levels: more than nine levels refused 6"),
+    (Slip::SixFirst, "levels: 6 tested before 3"),
+    (Slip::SixBeforeWeights, "levels: 6 tested before 12 and 13"),
+    (Slip::SixBeforeFive, "levels: 6 tested before 5"),
+    (
+        Slip::SixInTurn,
+        "levels: 6 tested with each record, at the one that closes a loop",
+    ),
+    (
+        Slip::SixFirstRecord,
+        "levels: 6 with the number of the first record that is to blame",
+    ),
+    (
+        Slip::SixLastRecord,
+        "levels: 6 with the number of the last record",
+    ),
+    (Slip::SixAccess, "levels: 6 with the count of access rules"),
+    (
+        Slip::OrderOfNumbers,
+        "levels: tested as found, applied by number",
+    ),
+    (
+        Slip::OneSweepLevels,
+        "levels: found in one sweep over the records",
+    ),
+    (
+        Slip::NineOfLevels,
+        "levels: from the ninth on, rules applied as if of one level",
+    ),
+    (Slip::FallingLevels, "levels: the highest applied first"),
+    (
+        Slip::HoldsItself,
+        "levels: a positive loop that nothing enters holds itself",
     ),
 ];
 

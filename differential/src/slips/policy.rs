@@ -1,7 +1,7 @@
 //! Slips in the policy's test.
 
 use super::names::{Slip, Slipped};
-use crate::plain::policy::{atoms, level, read, Policy, Record, Refusal, WEIGHT};
+use crate::plain::policy::{read, Policy, Record, Refusal, WEIGHT};
 
 impl Slipped {
     fn read(&self, bytes: &[u8]) -> Record {
@@ -14,27 +14,6 @@ impl Slipped {
             record.head &= 63;
         }
         record
-    }
-
-    fn level(&self, atom: u8) -> u8 {
-        if self.is(Slip::BreachLevel) {
-            atom / 8
-        } else {
-            level(atom)
-        }
-    }
-
-    fn levels_broken(&self, record: &Record) -> bool {
-        let head = self.level(record.head);
-        let positive = |atom| {
-            let own = self.level(atom);
-            own > head || self.is(Slip::PositiveLevel) && own == head
-        };
-        let negative = |atom| {
-            let own = self.level(atom);
-            own > head || own == head && !self.is(Slip::NegativeLevel)
-        };
-        atoms(record.positive).any(positive) || atoms(record.negative).any(negative)
     }
 
     /// What is wrong with a record, with these before it.
@@ -53,7 +32,7 @@ impl Slipped {
         if access && breach || !access && (record.positive > 0xffff || record.negative != 0) {
             return Some(5);
         }
-        (access && self.levels_broken(record)).then_some(6)
+        None
     }
 
     /// The record number and number of the fault that is given.
@@ -84,7 +63,8 @@ impl Slipped {
             return Err(Refusal::by_writer(2, policy.len() / 18));
         }
         let records: Vec<Record> = policy.chunks(18).map(|bytes| self.read(bytes)).collect();
-        if let Some((k, number)) = self.first_fault(&records) {
+        let six = self.six(&records);
+        if let Some((k, number)) = self.first(self.first_fault(&records), six) {
             return Err(Refusal::by_writer(number, k));
         }
         let most = if self.is(Slip::LastRecord) { 127 } else { 128 };
@@ -93,8 +73,10 @@ impl Slipped {
             read.filter(move |record| record.kind == kind).copied()
         };
         let weights: Vec<Record> = of_kind(WEIGHT).collect();
+        let access: Vec<Record> = of_kind(1).collect();
         Ok(Policy {
-            access: of_kind(1).collect(),
+            levels: self.levels(&access),
+            access,
             disclosure: of_kind(2).chain(self.disclosed(&weights)).collect(),
             weights,
         })

@@ -1,36 +1,18 @@
 //! The policy's test.
 
+use super::levels::{levels, Levels};
 use crate::plain::policy::Refusal;
 
 pub(super) fn word(bytes: &[u8]) -> u64 {
     u64::from_le_bytes(bytes.try_into().expect("eight bytes"))
 }
 
-pub(super) const fn level(atom: u8) -> usize {
-    (atom >> 3) as usize + (atom == 63) as usize
-}
-
-/// The atoms on levels below this one.
-const fn below(level: usize) -> u64 {
-    if level >= 8 {
-        u64::MAX >> 1
-    } else {
-        (1 << (8 * level)) - 1
+/// What a body may not have, positive and negated, under a head.
+fn forbidden(head: u8) -> [u64; 2] {
+    match head < 16 {
+        true => [!0xffff, !0],
+        false => [1 << 63; 2],
     }
-}
-
-/// What a body may not have, positive and negated, for each head; heads below 16 are those of disclosure rules.
-const FORBIDDEN: [[u64; 2]; 64] = forbidden();
-
-const fn forbidden() -> [[u64; 2]; 64] {
-    let mut table = [[!0xffff, !0]; 64];
-    let mut head = 16;
-    while head < 64 {
-        let level = level(head as u8);
-        table[head] = [!below(level + 1), !below(level)];
-        head += 1;
-    }
-    table
 }
 
 fn right(bytes: &[u8; 18]) -> bool {
@@ -38,15 +20,16 @@ fn right(bytes: &[u8; 18]) -> bool {
     if head > 63 || kind != 1 + u8::from(head < 16) {
         return false;
     }
-    let [positive, negative] = FORBIDDEN[usize::from(head)];
+    let [positive, negative] = forbidden(head);
     word(&bytes[2..10]) & positive | word(&bytes[10..18]) & negative == 0
 }
 
-/// Accepted records, and whether one of them gives a weight.
+/// Accepted records, whether one of them gives a weight, and the levels of their heads.
 #[derive(Clone, Copy)]
 pub struct Accepted<'a> {
     pub records: &'a [[u8; 18]],
     pub weighed: bool,
+    pub levels: Levels,
 }
 
 impl Accepted<'_> {
@@ -78,8 +61,7 @@ fn fault(bytes: &[u8; 18]) -> u8 {
     let (positive, negative) = (word(&bytes[2..10]), word(&bytes[10..18]));
     match kind {
         1 if !(16..64).contains(&head) => 4,
-        1 if (positive | negative) >> 63 != 0 => 5,
-        1 => 6,
+        1 => 5,
         2 | 3 if head > 15 => 4,
         2 => 5,
         3 if positive > 15 || negative != 0 => 12,
@@ -90,20 +72,17 @@ fn fault(bytes: &[u8; 18]) -> u8 {
 
 /// The test from the first record on that is no right rule: it gives a weight, or is wrong.
 #[inline(never)]
-fn check_from(records: &[[u8; 18]], first: usize) -> Result<Accepted<'_>, Refusal> {
+fn check_from(records: &[[u8; 18]], first: usize) -> Result<(), Refusal> {
     let mut weighed = 0;
     let wrong = |record: &[u8; 18]| !right(record) && !weighs(record, &mut weighed);
     match records[first..].iter().position(wrong) {
         Some(k) => Err(Refusal::by_writer(fault(&records[first + k]), first + k)),
-        None => Ok(Accepted {
-            records,
-            weighed: true,
-        }),
+        None => Ok(()),
     }
 }
 
 /// The policy's test: whether a record is a right rule, in one step, and only of one that is not, whether it gives a weight, or
-/// what is wrong.
+/// what is wrong; then the levels.
 pub fn check(policy: &[u8]) -> Result<Accepted<'_>, Refusal> {
     if policy.len() > 2304 {
         return Err(Refusal::by_writer(1, 128));
@@ -112,11 +91,16 @@ pub fn check(policy: &[u8]) -> Result<Accepted<'_>, Refusal> {
     if !rest.is_empty() {
         return Err(Refusal::by_writer(2, records.len()));
     }
-    match records.iter().position(|record| !right(record)) {
-        Some(first) => check_from(records, first),
-        None => Ok(Accepted {
+    let other = records.iter().position(|record| !right(record));
+    if let Some(first) = other {
+        check_from(records, first)?;
+    }
+    match levels(records) {
+        Some(levels) => Ok(Accepted {
             records,
-            weighed: false,
+            weighed: other.is_some(),
+            levels,
         }),
+        None => Err(Refusal::by_writer(6, records.len())),
     }
 }

@@ -1,7 +1,8 @@
-//! A tuned plain Rust version, for the benchmark: the same way of going about it as the gate's, as fast as ordinary safe scalar
-//! Rust makes it. The differential tests hold it against the plain version too.
+//! A tuned plain Rust version, for the benchmark: rules sorted by level as the gate's are, and one candidate at a time, as fast as
+//! ordinary safe scalar Rust makes it. The differential tests hold it against the plain version too.
 
 mod check;
+mod levels;
 pub(crate) mod order;
 mod rules;
 mod search;
@@ -17,8 +18,7 @@ use rules::Disclosures;
 use search::{preferred, preferred_by_weight};
 
 pub fn model(policy: &[u8], credentials: u16) -> Result<u64, Refusal> {
-    let accepted = check(policy)?;
-    Ok(Access::new(accepted.records).levels().model(credentials))
+    Ok(Access::new(&check(policy)?).model(credentials))
 }
 
 pub fn disclosable(policy: &[u8], shown: u16) -> Result<u16, Refusal> {
@@ -27,16 +27,16 @@ pub fn disclosable(policy: &[u8], shown: u16) -> Result<u16, Refusal> {
 
 /// How a round under accepted records ends with this shown and declined.
 pub fn ending(accepted: Accepted, service: u16, shown: u16, declined: u16) -> Ending {
-    let access = Access::new(accepted.records);
-    let levels = access.levels();
-    if levels.unlocks(service, shown) {
+    let access = Access::new(&accepted);
+    let opening = access.opening(service);
+    if opening.unlocks(shown) {
         return Ending::Grant;
     }
     let disclosable = Disclosures::new(accepted.records).disclosable(shown);
     let may_ask = disclosable & !shown & !declined;
     let found = match accepted.weighed {
-        false => preferred(&levels, service, shown, may_ask),
-        true => preferred_by_weight(&levels, service, shown, may_ask, &accepted.weights()),
+        false => preferred(&opening, shown, may_ask),
+        true => preferred_by_weight(&opening, shown, may_ask, &accepted.weights()),
     };
     found.map_or(Ending::Deny, Ending::Ask)
 }

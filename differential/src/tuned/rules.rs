@@ -1,6 +1,6 @@
 //! Rules, parsed once, and what they give.
 
-use super::check::{level, word};
+use super::check::{word, Accepted};
 
 /// A rule whose head is a set of one atom.
 #[derive(Clone, Copy)]
@@ -10,10 +10,9 @@ struct Rule {
     negative: u64,
 }
 
-/// Adds nothing, and never applies before the breach mark is there.
 const NO_RULE: Rule = Rule {
     head: 0,
-    positive: 1 << 63,
+    positive: 0,
     negative: 0,
 };
 
@@ -25,127 +24,161 @@ fn rule(bytes: &[u8; 18]) -> Rule {
     }
 }
 
-/// Passes over rules until one adds nothing; "not" is read of the set as it was before. What is kept is what the set lacks. `apply`
-/// jumps, and does not choose between two values: a rule that does not apply, as most do not, then leaves nothing for the next one
-/// to wait for.
+/// What is kept is what the set lacks. This jumps, and does not choose between two values: a rule that does not apply, as most do
+/// not, then leaves nothing for the next one to wait for.
 #[inline(always)]
-fn close(rules: &[[Rule; 2]], before: u64) -> u64 {
-    let mut lacks = !before;
-    loop {
-        let last = lacks;
-        for [first, second] in rules {
-            lacks = apply(first, before, lacks);
-            lacks = apply(second, before, lacks);
-        }
-        if lacks == last {
-            return !lacks;
-        }
-    }
-}
-
-#[inline(always)]
-fn apply(rule: &Rule, before: u64, lacks: u64) -> u64 {
-    if rule.negative & before | rule.positive & lacks == 0 {
+fn apply(rule: &Rule, lacks: u64) -> u64 {
+    if rule.negative & !lacks | rule.positive & lacks == 0 {
         std::hint::black_box(());
         return lacks & !rule.head;
     }
     lacks
 }
 
-/// Access rules sorted by level, two by two: level l's from `starts[l]` to `starts[l + 1]`.
+/// One pass over rules.
+#[inline(always)]
+fn pass(rules: &[Rule], mut lacks: u64) -> u64 {
+    for rule in rules {
+        lacks = apply(rule, lacks);
+    }
+    lacks
+}
+
+/// Passes over rules until one adds nothing.
+#[inline(always)]
+fn close(rules: &[Rule], mut lacks: u64) -> u64 {
+    loop {
+        let last = lacks;
+        lacks = pass(rules, lacks);
+        if lacks == last {
+            return lacks;
+        }
+    }
+}
+
+/// Some rules one after the other. What their "not" reads is finished before; where they are in loops, they take several passes.
+#[derive(Clone, Copy)]
+struct Part {
+    start: usize,
+    end: usize,
+    looped: bool,
+}
+
+/// Access rules sorted by level, in each level those in loops last; where each level's end.
 pub struct Access {
-    rules: Vec<[Rule; 2]>,
-    starts: [usize; 10],
+    rules: Vec<Rule>,
+    /// For each level, where those without loops and where those in loops end.
+    ends: Vec<[usize; 2]>,
+    levels: [u8; 64],
 }
 
 impl Access {
-    /// A counting sort by level; where a level has an odd number of rules, its last place is no rule.
-    pub fn new(records: &[[u8; 18]]) -> Access {
-        let mut starts = [0usize; 10];
-        for bytes in records.iter().filter(|bytes| bytes[0] == 1) {
-            starts[level(bytes[1]) + 1] += 1;
+    /// A counting sort.
+    pub fn new(accepted: &Accepted) -> Access {
+        let levels = &accepted.levels;
+        let place = |bytes: &[u8; 18]| {
+            let head = bytes[1] & 63;
+            2 * usize::from(levels.of[usize::from(head)]) + (levels.looped >> head & 1) as usize
+        };
+        let access = || accepted.records.iter().filter(|bytes| bytes[0] == 1);
+        let mut starts = [0usize; 100];
+        access().for_each(|bytes| starts[place(bytes) + 1] += 1);
+        for k in 1..2 * levels.count + 1 {
+            starts[k] += starts[k - 1];
         }
-        for level in 1..10 {
-            starts[level] = starts[level - 1] + starts[level].div_ceil(2);
-        }
-        let mut rules = vec![[NO_RULE; 2]; starts[9]];
-        let mut free = starts.map(|start| 2 * start);
-        for bytes in records.iter().filter(|bytes| bytes[0] == 1) {
-            let place = &mut free[level(bytes[1])];
-            rules[*place / 2][*place % 2] = rule(bytes);
+        let mut rules = vec![NO_RULE; starts[2 * levels.count]];
+        let mut free = starts;
+        for bytes in access() {
+            let place = &mut free[place(bytes)];
+            rules[*place] = rule(bytes);
             *place += 1;
         }
-        Access { rules, starts }
+        let ends = (0..levels.count).map(|level| [starts[2 * level + 1], starts[2 * level + 2]]);
+        Access {
+            rules,
+            ends: ends.collect(),
+            levels: levels.of,
+        }
     }
 
-    /// The rules level by level.
-    pub fn levels(&self) -> Levels<'_> {
-        let level = |l: usize| &self.rules[self.starts[l]..self.starts[l + 1]];
-        Levels(std::array::from_fn(level))
+    /// The rules of levels from one up to, but without, another, in as few parts as can be.
+    fn parts(&self, from: usize, to: usize) -> Vec<Part> {
+        let mut parts: Vec<Part> = Vec::new();
+        let mut start = match from {
+            0 => 0,
+            _ => self.ends[from - 1][1],
+        };
+        for (end, looped) in self.ends[from..to]
+            .iter()
+            .flat_map(|[plain, all]| [(*plain, false), (*all, true)])
+        {
+            match parts.last_mut() {
+                _ if end == start => {}
+                Some(last) if !last.looped && !looped => last.end = end,
+                _ => parts.push(Part { start, end, looped }),
+            }
+            start = end;
+        }
+        parts
     }
-}
 
-/// The rules of each level.
-pub struct Levels<'a>([&'a [[Rule; 2]]; 9]);
-
-impl Levels<'_> {
-    /// A level, by number so that each level's loop is code of its own: jumps are then foretold level by level.
     #[inline(always)]
-    fn finish<const LEVEL: usize>(&self, set: u64) -> u64 {
-        close(self.0[LEVEL], set)
+    fn finish(&self, parts: &[Part], mut lacks: u64) -> u64 {
+        for part in parts {
+            let rules = &self.rules[part.start..part.end];
+            lacks = match part.looped {
+                true => close(rules, lacks),
+                false => pass(rules, lacks),
+            };
+        }
+        lacks
     }
 
     pub fn model(&self, credentials: u16) -> u64 {
-        let set = self.finish::<2>(u64::from(credentials));
-        let set = self.finish::<3>(set);
-        let set = self.finish::<4>(set);
-        let set = self.finish::<5>(set);
-        let set = self.finish::<6>(set);
-        let set = self.finish::<7>(set);
-        self.finish::<8>(set)
+        let parts = self.parts(0, self.ends.len());
+        !self.finish(&parts, !u64::from(credentials))
     }
 
-    /// A level; nothing where the service is of this level and not in the model.
-    #[inline(always)]
-    fn step<const LEVEL: usize>(&self, service: u16, set: u64) -> Option<u64> {
-        let set = self.finish::<LEVEL>(set);
-        let lacks = usize::from(service / 8) == LEVEL && set >> service & 1 == 0;
-        (!lacks).then_some(set)
-    }
-
-    /// The model, if the service is in it.
-    #[inline(always)]
-    fn model_with(&self, service: u16, credentials: u16) -> Option<u64> {
-        let set = self.step::<2>(service, u64::from(credentials))?;
-        let set = self.step::<3>(service, set)?;
-        let set = self.step::<4>(service, set)?;
-        let set = self.step::<5>(service, set)?;
-        let set = self.step::<6>(service, set)?;
-        let set = self.step::<7>(service, set)?;
-        self.step::<8>(service, set)
-    }
-
-    pub fn unlocks(&self, service: u16, credentials: u16) -> bool {
-        self.model_with(service, credentials)
-            .is_some_and(|set| set >> 63 == 0)
+    /// The rules made ready for a service.
+    pub fn opening(&self, service: u16) -> Opening<'_> {
+        let own = usize::from(self.levels[usize::from(service & 63)]) + 1;
+        Opening {
+            access: self,
+            service,
+            first: self.parts(0, own),
+            then: self.parts(own, self.ends.len()),
+        }
     }
 }
 
-/// Disclosure rules, two by two.
-pub struct Disclosures(Vec<[Rule; 2]>);
+/// The parts up to the service's level, after which a set without the service is done with, and those above.
+pub struct Opening<'a> {
+    access: &'a Access,
+    service: u16,
+    first: Vec<Part>,
+    then: Vec<Part>,
+}
+
+impl Opening<'_> {
+    pub fn unlocks(&self, credentials: u16) -> bool {
+        let lacks = self.access.finish(&self.first, !u64::from(credentials));
+        if lacks >> self.service & 1 == 1 {
+            return false;
+        }
+        self.access.finish(&self.then, lacks) >> 63 == 1
+    }
+}
+
+/// Disclosure rules.
+pub struct Disclosures(Vec<Rule>);
 
 impl Disclosures {
     pub fn new(records: &[[u8; 18]]) -> Disclosures {
-        let mut rules = Vec::with_capacity(records.len().div_ceil(2));
-        let mut of_kind = records.iter().filter(|bytes| bytes[0] == 2);
-        while let Some(bytes) = of_kind.next() {
-            let second = of_kind.next().map_or(NO_RULE, rule);
-            rules.push([rule(bytes), second]);
-        }
-        Disclosures(rules)
+        let of_kind = records.iter().filter(|bytes| bytes[0] == 2);
+        Disclosures(of_kind.map(rule).collect())
     }
 
     pub fn disclosable(&self, shown: u16) -> u16 {
-        close(&self.0, u64::from(shown)) as u16
+        !close(&self.0, !u64::from(shown)) as u16
     }
 }

@@ -1,7 +1,7 @@
 //! The preferred question.
 
 use super::order::{first_of, members};
-use super::rules::Levels;
+use super::rules::Opening;
 
 /// The n lowest members of a set, for each n up to its size.
 fn lowest_members(set: u16) -> [u16; 17] {
@@ -26,12 +26,12 @@ fn next_of_size(set: u16, subset: u16, size: usize, lowest: &[u16; 17]) -> Optio
 }
 
 /// Sizes rise, and within a size each subset leads straight to the next.
-pub fn preferred(levels: &Levels, service: u16, shown: u16, may_ask: u16) -> Option<u16> {
+pub fn preferred(opening: &Opening, shown: u16, may_ask: u16) -> Option<u16> {
     let lowest = lowest_members(may_ask);
     for size in 1..=may_ask.count_ones() as usize {
         let mut next = Some(lowest[size]);
         while let Some(subset) = next {
-            if levels.unlocks(service, shown | subset) {
+            if opening.unlocks(shown | subset) {
                 return Some(subset);
             }
             next = next_of_size(may_ask, subset, size, &lowest);
@@ -42,17 +42,16 @@ pub fn preferred(levels: &Levels, service: u16, shown: u16, may_ask: u16) -> Opt
 
 /// The same by weights; where those that may be asked weigh the same, they decide nothing.
 pub fn preferred_by_weight(
-    levels: &Levels,
-    service: u16,
+    opening: &Opening,
     shown: u16,
     may_ask: u16,
     weights: &[u8; 16],
 ) -> Option<u16> {
     let members = members(weights, may_ask);
     if members.windows(2).all(|pair| pair[0].0 == pair[1].0) {
-        return preferred(levels, service, shown, may_ask);
+        return preferred(opening, shown, may_ask);
     }
     let all = (1 << members.len()) - 1;
-    let found = first_of(members, all, |set| levels.unlocks(service, shown | set));
+    let found = first_of(members, all, |set| opening.unlocks(shown | set));
     found.map(|(_, set)| set)
 }

@@ -51,7 +51,7 @@ fn ties(policy: &[u8], search: &Search, set: u16) -> [bool; 2] {
     }
     let weight = |set: u16| total_weight(&search.weights, set);
     let light = all.into_iter().filter(|other| {
-        let opens = || unlocks(&rules.access, search.request, search.shown | other);
+        let opens = || unlocks(&rules.levels, search.request, search.shown | other);
         *other != set && weight(*other) == weight(set) && opens()
     });
     let light: Vec<u16> = light.collect();

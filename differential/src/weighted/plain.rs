@@ -20,7 +20,7 @@ pub fn answer(policy: &[u8], search: &Search) -> Answer {
     if !is_service(search.request) {
         return Answer::Refused;
     }
-    let opens = |set: u16| unlocks(&rules.access, search.request, search.shown | set);
+    let opens = |set: u16| unlocks(&rules.levels, search.request, search.shown | set);
     if opens(0) {
         return Answer::Found { trials: 0, set: 0 };
     }

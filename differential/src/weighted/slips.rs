@@ -120,7 +120,7 @@ impl Slip {
         if !is_service(request) && !untested {
             return Answer::Refused;
         }
-        let opens = |set: u16| unlocks(&rules.access, request, search.shown | set);
+        let opens = |set: u16| unlocks(&rules.levels, request, search.shown | set);
         if self != Slip::ShownUntried && opens(0) {
             return Answer::Found { trials: 0, set: 0 };
         }

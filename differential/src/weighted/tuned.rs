@@ -12,9 +12,9 @@ pub fn answer(policy: &[u8], search: &Search) -> Answer {
     if !is_service(search.request) {
         return Answer::Refused;
     }
-    let access = Access::new(accepted.records);
-    let levels = access.levels();
-    let opens = |set: u16| levels.unlocks(search.request, search.shown | set);
+    let access = Access::new(&accepted);
+    let opening = access.opening(search.request);
+    let opens = |set: u16| opening.unlocks(search.shown | set);
     if opens(0) {
         return Answer::Found { trials: 0, set: 0 };
     }

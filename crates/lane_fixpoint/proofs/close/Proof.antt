@@ -14,7 +14,9 @@ abbrev μ-loop : tie.MeasureT-loop
 μ-loop table₀ heads positive negated from to possible progress₀ initial₀ passes₀ table progress initial passes = 64 - passes
 
 reduce-requires : tie.Need-reduce-requires Inv-loop μ-loop
-reduce-requires c κs = let p = c .before .pre .0 in record { ordered = p .0 .ordered; fits = p .0 .fits; long = p .1 }
+reduce-requires c κs =
+    let p = c .before .pre .0 in
+    (record { ordered = p .0 .ordered; fits = p .0 .fits; long = p .1 }, c .before .pre .1)
 
 loop-holds : tie.Need-loop-holds Inv-loop μ-loop
 loop-holds c =

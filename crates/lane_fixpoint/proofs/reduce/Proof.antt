@@ -7,13 +7,13 @@ use Rattle.lane_fixpoint.proofs.reduce.Statement.{statement}
 use Rattle.lane_fixpoint.proofs.reduce.Tie as tie
 
 abbrev Inv-loop : tie.InvT-loop
-Inv-loop table₀ negated from to k₀ table k = Reducing negated from table₀ table k
+Inv-loop table₀ negated from to possible k₀ table k = Reducing negated from table₀ table k
 
 abbrev μ-loop : tie.MeasureT-loop
-μ-loop table₀ negated from to k₀ table k = to - k
+μ-loop table₀ negated from to possible k₀ table k = to - k
 
 loop-holds : tie.Need-loop-holds Inv-loop μ-loop
-loop-holds c = reducing-first _ _ _ (c .pre .long)
+loop-holds c = reducing-first _ _ _ (c .pre .0 .long)
 
 mul-none : tie.Need-mul-none Inv-loop μ-loop
 mul-none c = omega arith
@@ -43,7 +43,8 @@ loop-again : tie.Need-loop-again Inv-loop μ-loop
 loop-again c =
     let l = c .before .before .before .before .before .before .before .loop in
     let hit = c .before .before .before .having-any .ensures in
-    reducing-next _ _ _ _ _ _ _ (l .k) (l .inv) hit (c .before .complement .ensures) (c .store .ensures)
+    let s = c .before .before .before .before .before .before .before .before in
+    reducing-next _ _ _ _ _ _ _ _ (l .k) (s .pre .1) (l .inv) hit (c .before .complement .ensures) (c .store .ensures)
 
 returns : tie.Need-returns Inv-loop μ-loop
 returns c = reducing-done _ _ _ _ (c .before .loop .k) _ (omega arith) (c .before .loop .inv)

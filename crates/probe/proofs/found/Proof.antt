@@ -3,7 +3,7 @@ use mathlib.Core.Path.{_∙_, ap}
 use lib.Pow.{pow-pos}
 use native.Mathlib.Omega.{arith}
 use Rattle.atoms.specs.Sets.{size}
-use Rattle.records.specs.Levels.{levelCount}
+use Rattle.arrays.specs.Arrays.{levelCount}
 use Rattle.search.specs.Types.{resultOf}
 use Rattle.question.proofs.AskedLaws.{counted, locked}
 use Rattle.probe.proofs.ReplyLaws.{replies-found, within-limit}

@@ -1,7 +1,7 @@
 -- `question::preferred` meets its contract. Assumes nothing.
 use mathlib.Core.Path.{_∙_, ap}
 use Rattle.atoms.specs.Sets.{size}
-use Rattle.records.specs.Levels.{levelCount}
+use Rattle.arrays.specs.Arrays.{levelCount}
 use Rattle.question.proofs.AskedLaws.{answered, counted, locked}
 use borrow.Author.Needs.{needs}
 use Rattle.question.proofs.preferred.Statement.{statement}

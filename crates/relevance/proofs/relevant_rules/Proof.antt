@@ -2,7 +2,7 @@
 use denote.Ref.{now}
 use borrow.Author.Needs.{needs}
 use native.Mathlib.Omega.{arith}
-use Rattle.records.specs.Levels.{levelCount}
+use Rattle.arrays.specs.Arrays.{levelCount}
 use Rattle.relevance.proofs.AnswerLaws.{same-answer}
 use Rattle.relevance.proofs.relevant_rules.Statement.{statement}
 use Rattle.relevance.proofs.relevant_rules.Tie as tie

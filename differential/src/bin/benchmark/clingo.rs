@@ -66,12 +66,12 @@ fn weighted_row(input: &Input) -> Option<Row> {
 }
 
 fn rows(inputs: &Inputs) -> Vec<Row> {
-    let models = inputs.short.iter().chain(&inputs.full);
+    let large = || inputs.full.iter().chain(&inputs.chains);
+    let models = inputs.short.iter().chain(large());
     let mut rows: Vec<Row> = models.filter_map(model_row).collect();
     let first = inputs.short.iter().chain(&inputs.asking);
     rows.extend(first.filter_map(|input| question_row("first round", input)));
-    let worst = inputs.full.iter();
-    rows.extend(worst.filter_map(|input| question_row("worst round", input)));
+    rows.extend(large().filter_map(|input| question_row("worst round", input)));
     let first = inputs.short_weighed.iter().chain(&inputs.asking_weighed);
     rows.extend(first.filter_map(|input| question_row("first round", input)));
     let worst = inputs.fewer_weighed.iter();

@@ -4,21 +4,14 @@ use crate::inputs::{Input, Inputs};
 use crate::timing::Times;
 use differential::gate;
 use differential::plain::disclosure::disclosable;
-use differential::plain::policy::{check, level, Record};
+use differential::plain::policy::check;
 use differential::plain::weights::weights;
 use differential::stack;
 use differential::weighted::{tuned, Answer, Search};
 
 /// Tests of a rule's body in passes over all levels, for every part of sixteen credentials.
 fn body_tests(policy: &[u8]) -> u64 {
-    let rules = check(policy).map_or(Vec::new(), |policy| policy.access);
-    let of_level = |l: u8| {
-        rules
-            .iter()
-            .filter(move |rule| level(rule.head) == l)
-            .copied()
-    };
-    let levels: Vec<Vec<Record>> = (0..9).map(|l| of_level(l).collect()).collect();
+    let levels = check(policy).map_or(Vec::new(), |policy| policy.levels);
     let mut tests = 0;
     for credentials in 0..=u16::MAX {
         let mut set = u64::from(credentials);
@@ -45,7 +38,7 @@ fn worst<'a>(inputs: &'a Inputs, times: &'a [Times]) -> Vec<(&'a Input, &'a Time
         let name = format!("worst round, {}, request", input.name);
         times.iter().find(|item| item.name.starts_with(&name))
     };
-    let all = inputs.full.iter();
+    let all = inputs.full.iter().chain(&inputs.chains);
     all.filter_map(|input| Some((input, timed(input)?)))
         .collect()
 }

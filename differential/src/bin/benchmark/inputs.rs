@@ -1,5 +1,6 @@
 //! The policies that are timed, each with the request of its rounds.
 
+use crate::levelled;
 use differential::marked::policy_a;
 use differential::plain::policy::Record;
 use differential::policies::{access, disclosure, encode, weight};
@@ -13,7 +14,7 @@ pub struct Input {
     pub request: u16,
 }
 
-fn input(name: &str, policy: Vec<u8>, request: u16) -> Input {
+pub fn input(name: &str, policy: Vec<u8>, request: u16) -> Input {
     Input {
         name: name.to_string(),
         policy,
@@ -79,7 +80,11 @@ pub struct Inputs {
     pub short_weighed: Vec<Input>,
     /// 128 records each; nothing unlocks 62, and all candidates are tried.
     pub full: Vec<Input>,
-    /// The same with 112 records; and these with sixteen weights.
+    /// One chain over all derived atoms, upwards and downwards, 128 records each; nothing unlocks its end.
+    pub chains: Vec<Input>,
+    /// Policies of 128 records for the test of levels alone, refused ones among them.
+    pub levelled: Vec<Input>,
+    /// The full ones with 112 records; and these with sixteen weights.
     pub fewer: Vec<Input>,
     pub fewer_weighed: Vec<Input>,
     /// The full ones without the rules for 63, and a service for which there is a question.
@@ -90,14 +95,22 @@ pub struct Inputs {
 
 impl Inputs {
     pub fn read(folder: &Path) -> Result<Inputs, String> {
+        let read = |name: &str| {
+            let bytes = std::fs::read(folder.join(name));
+            bytes.map_err(|e| format!("{name}: {e}"))
+        };
         let mut full = Vec::new();
         let mut asking = Vec::new();
         for (name, service) in [("chain.bin", 39), ("wide.bin", 18), ("slow.bin", 62)] {
-            let policy = std::fs::read(folder.join(name)).map_err(|e| format!("{name}: {e}"))?;
+            let policy = read(name)?;
             let less = format!("{name} less 63");
             asking.push(input(&less, less_63(&policy), service));
             full.push(input(name, policy, 62));
         }
+        let chains = vec![
+            input("up.bin", read("up.bin")?, 62),
+            input("down.bin", read("down.bin")?, 16),
+        ];
         let short = vec![
             input("policy A", policy_a(), 16),
             input("44 records", middle(), 48),
@@ -116,14 +129,18 @@ impl Inputs {
             fewer: shorter,
             asking_weighed: asking.iter().map(|i| sixteen(&fewer(i))).collect(),
             full,
+            chains,
+            levelled: levelled::policies(),
             asking,
         })
     }
 
     /// Every one of them.
     pub fn all(&self) -> impl Iterator<Item = &Input> {
-        let without = self.short.iter().chain(&self.full).chain(&self.asking);
+        let without = self.short.iter().chain(&self.full).chain(&self.chains);
         without
+            .chain(&self.levelled)
+            .chain(&self.asking)
             .chain(&self.short_weighed)
             .chain(&self.fewer_weighed)
             .chain(&self.asking_weighed)

@@ -3,7 +3,7 @@
 use crate::inputs::{Input, Inputs};
 use differential::gate;
 use differential::plain::disclosure::disclosable;
-use differential::plain::interface::{encode, ending_reply};
+use differential::plain::interface::{encode, ending_reply, refusal_reply};
 use differential::plain::model::model;
 use differential::plain::policy::{check, Policy};
 use differential::plain::session::{open, round};
@@ -27,8 +27,14 @@ fn check_item(input: &Input) -> Item {
         name: format!("check, {}", input.name),
         versions: [
             Box::new(move || gate::check(black_box(&a)).into()),
-            Box::new(move || check(black_box(&b)).map_or(1, |_| 0)),
-            Box::new(move || tuned::check(black_box(&c)).map_or(1, |_| 0)),
+            Box::new(move || {
+                let tested = check(black_box(&b));
+                tested.map_or_else(refusal_reply, |_| 0).into()
+            }),
+            Box::new(move || {
+                let tested = tuned::check(black_box(&c));
+                tested.map_or_else(refusal_reply, |_| 0).into()
+            }),
         ],
     }
 }
@@ -40,7 +46,7 @@ fn model_item(input: &Input, credentials: u16) -> Item {
         versions: [
             Box::new(move || gate::model(black_box(&a), black_box(credentials)).1),
             Box::new(move || {
-                check(black_box(&b)).map_or(0, |p| model(&p.access, black_box(credentials)))
+                check(black_box(&b)).map_or(0, |p| model(&p.levels, black_box(credentials)))
             }),
             Box::new(move || tuned::model(black_box(&c), black_box(credentials)).unwrap_or(0)),
         ],
@@ -108,15 +114,17 @@ fn round_item(what: &str, input: &Input) -> Option<Item> {
 
 pub fn items(inputs: &Inputs) -> Vec<Item> {
     let (a, middle, full) = (&inputs.short[0], &inputs.short[1], &inputs.full);
-    let mut items: Vec<Item> = [a, middle, &full[0]].map(check_item).into();
+    let tested = [a, middle].into_iter().chain(full);
+    let tested = tested.chain(&inputs.chains).chain(&inputs.levelled);
+    let mut items: Vec<Item> = tested.map(check_item).collect();
     items.push(model_item(a, 0b11));
     items.push(model_item(middle, 0xff));
-    items.extend(full.iter().map(|input| model_item(input, 0x5555)));
+    let large = || full.iter().chain(&inputs.chains);
+    items.extend(large().map(|input| model_item(input, 0x5555)));
     items.extend([a, middle, &full[0]].map(|input| disclosable_item(input, 0)));
     let first = [a, middle].into_iter().chain(&inputs.asking);
     items.extend(first.filter_map(|input| round_item("first round", input)));
-    let worst = full.iter();
-    items.extend(worst.filter_map(|input| round_item("worst round", input)));
+    items.extend(large().filter_map(|input| round_item("worst round", input)));
     let first = inputs.short_weighed.iter().chain(&inputs.asking_weighed);
     items.extend(first.filter_map(|input| round_item("first round", input)));
     let worst = inputs.fewer.iter().chain(&inputs.fewer_weighed);

@@ -4,6 +4,7 @@ mod clingo;
 mod effort;
 mod inputs;
 mod items;
+mod levelled;
 mod program;
 mod searches;
 mod solver;

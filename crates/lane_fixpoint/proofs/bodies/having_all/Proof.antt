@@ -3,8 +3,8 @@ use mathlib.Core.Path.{refl}
 use Prim.Native.Nat.{_<_, _^_}
 use borrow.Author.Needs.{needs}
 use native.Mathlib.Omega.{arith}
+use Rattle.atoms.proofs.LowestLaws.{lowest-fits, rest-less}
 use Rattle.lane_fixpoint.proofs.BodyLaws.{Held, held-done, held-next}
-use Rattle.lane_fixpoint.proofs.LowestLaws.{lowest-fits, rest-less}
 use Rattle.lane_fixpoint.proofs.bodies.having_all.Statement.{statement}
 use Rattle.lane_fixpoint.proofs.bodies.having_all.Tie as tie
 

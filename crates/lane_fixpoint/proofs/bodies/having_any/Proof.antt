@@ -2,8 +2,8 @@
 use Prim.Native.Nat.{_<_, _^_}
 use native.Mathlib.Omega.{arith}
 use borrow.Author.Needs.{needs}
+use Rattle.atoms.proofs.LowestLaws.{lowest-fits, rest-less}
 use Rattle.lane_fixpoint.proofs.BodyLaws.{Hit, hit-done, hit-next, hit-none}
-use Rattle.lane_fixpoint.proofs.LowestLaws.{lowest-fits, rest-less}
 use Rattle.lane_fixpoint.proofs.bodies.having_any.Statement.{statement}
 use Rattle.lane_fixpoint.proofs.bodies.having_any.Tie as tie
 

@@ -1,7 +1,7 @@
 -- `lanes::candidates::fill` meets its contract: the atoms that are left make up the base. Assumes nothing.
 use native.Mathlib.Omega.{arith}
 use borrow.Author.Needs.{needs}
-use Rattle.lane_fixpoint.proofs.LowestLaws.{lowest-fits, rest-less}
+use Rattle.atoms.proofs.LowestLaws.{lowest-fits, rest-less}
 use Rattle.lanes.proofs.FillLaws.{Filling, filling-done, filling-first, filling-next}
 use Rattle.lanes.proofs.candidates.fill.Statement.{statement}
 use Rattle.lanes.proofs.candidates.fill.Tie as tie

@@ -5,7 +5,7 @@ use Rattle.pass_counts.proofs.case.counts.Statement.{statement}
 use Rattle.pass_counts.proofs.case.counts.Tie as tie
 
 access-rules-requires : tie.Need-access-rules-requires
-access-rules-requires c κs = (c .before .before .before .before .pre, room-start)
+access-rules-requires c κs = let a = c .before .before .before .before .pre in (a .form, (a .levels, room-start))
 
 credentials-requires : tie.Need-credentials-requires
 credentials-requires c κs = search needs

@@ -11,8 +11,8 @@ slice-aggregate-set c = search needs
 set-requires : tie.Need-set-requires
 set-requires c κs = search needs
 
-check-requires : tie.Need-check-requires
-check-requires c κs = search needs
+examine-requires : tie.Need-examine-requires
+examine-requires c κs = search needs
 
 enum-known-checked : tie.Need-enum-known-checked
 enum-known-checked c = search needs
@@ -21,7 +21,7 @@ enum-told : tie.Need-enum-told
 enum-told c = search needs
 
 counts-requires : tie.Need-counts-requires
-counts-requires c κs = c .before .before .check .ensures .1 .0 .accepts .0 (ap checkedOf (c .enum-told .given .1))
+counts-requires c κs = c .before .before .before .before .examine .ensures .1 .0 (ap checkedOf (c .before .enum-told .given .1))
 
 returns : tie.Need-returns
 returns c = search needs
@@ -38,7 +38,7 @@ line-spec =
     (tie.spec
     slice-aggregate-set
     set-requires
-    check-requires
+    examine-requires
     enum-known-checked
     enum-told
     counts-requires

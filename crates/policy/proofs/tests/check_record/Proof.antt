@@ -12,9 +12,6 @@ access-head-requires c κs = search needs
 access-body-requires : tie.Need-access-body-requires
 access-body-requires c κs = search needs
 
-access-levels-requires : tie.Need-access-levels-requires
-access-levels-requires c κs = search needs
-
 first-failed-requires : tie.Need-first-failed-requires
 first-failed-requires c κs = search needs
 
@@ -41,12 +38,11 @@ weight-failed-requires c κs = search needs
 
 returns : tie.Need-returns
 returns c before h =
-    let a = c .before .before .before .before .before .args in
+    let a = c .before .before .before .before .args in
     simp (
-      access-refusal before (recordOf (a .parsed)) (a .k) (c .before .before .before .before .match .keys1),
-      ← c .before .before .before .access-head .ensures,
-      ← c .before .before .access-body .ensures,
-      ← c .before .access-levels .ensures,
+      access-refusal before (recordOf (a .parsed)) (a .k) (c .before .before .before .match .keys1),
+      ← c .before .before .access-head .ensures,
+      ← c .before .access-body .ensures,
     ) (c .first-failed .ensures)
 
 returns-2 : tie.Need-returns-2
@@ -80,7 +76,6 @@ check-record-spec =
     (tie.spec
     access-head-requires
     access-body-requires
-    access-levels-requires
     first-failed-requires
     credential-head-requires
     disclosure-body-requires

@@ -17,14 +17,8 @@ returns-2 c =
 returns-3 : tie.Need-returns-3
 unfolding firstFailed relabelled
 returns-3 c =
-    let a = c .before .before .before .args in
-    simp (not-false (a .head) (c .before .before .if1 .left), not-false (a .body) (c .before .if2 .left), not-true (a .levels) (c .if3 .taken))
-
-returns-4 : tie.Need-returns-4
-unfolding firstFailed relabelled
-returns-4 c =
-    let a = c .before .before .before .args in
-    simp (not-false (a .head) (c .before .before .if1 .left), not-false (a .body) (c .before .if2 .left), not-false (a .levels) (c .if3 .left))
+    let a = c .before .before .args in
+    simp (not-false (a .head) (c .before .if1 .left), not-false (a .body) (c .if2 .left))
 
 pub first-failed-spec : {M : Type 1} → statement M
-first-failed-spec = tie.close (tie.spec returns returns-2 returns-3 returns-4)
+first-failed-spec = tie.close (tie.spec returns returns-2 returns-3)

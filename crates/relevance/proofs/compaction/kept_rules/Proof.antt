@@ -4,7 +4,7 @@ use Prim.Native.Nat.{_-_, _<_}
 use denote.Ref.{now}
 use borrow.Author.Needs.{needs}
 use native.Mathlib.Omega.{arith}
-use Rattle.records.specs.Levels.{levelCount}
+use Rattle.arrays.specs.Arrays.{levelCount}
 use Rattle.arrays.proofs.HeadLaws.{room-start}
 use Rattle.relevance.proofs.CompactionLaws.{Compacting, compacting-done, compacting-next, compacting-room}
 use Rattle.relevance.proofs.PlaceLaws.{before-none}

@@ -4,7 +4,7 @@ use Prim.Native.Nat.{_-_, suc}
 use denote.Ref.{now}
 use borrow.Author.Needs.{needs}
 use native.Mathlib.Omega.{arith}
-use Rattle.records.specs.Levels.{levelCount}
+use Rattle.arrays.specs.Arrays.{levelCount}
 use Rattle.arrays.proofs.StartLaws.{start-fits}
 use Rattle.relevance.proofs.PlaceLaws.{before-none}
 use Rattle.relevance.proofs.StartLaws.{Moving, moving-done, moving-next}

@@ -1,6 +1,6 @@
 -- `search::blocks::best_of` meets its contract. Assumes nothing.
 use Prim.Native.Nat.{_-_, _≤_}
-use Rattle.records.specs.Levels.{levelCount}
+use Rattle.arrays.specs.Arrays.{levelCount}
 use Rattle.preference.specs.InArrays.{opensAt}
 use Rattle.ranking.specs.Keys.{never}
 use Rattle.search.specs.Blocks.{Best}

@@ -2,8 +2,7 @@
 use mathlib.Core.Path.{_∙_, ap}
 use Prim.Native.Nat.{ℕ}
 use Rattle.rules.specs.Unlocking.{grants}
-use Rattle.records.specs.Levels.{levelCount}
-use Rattle.arrays.specs.Arrays.{evaluated}
+use Rattle.arrays.specs.Arrays.{evaluated, levelCount}
 use Rattle.preference.specs.InArrays.{opensAt}
 use borrow.Author.Needs.{needs}
 use Rattle.search.proofs.candidate.opens.Statement.{statement}

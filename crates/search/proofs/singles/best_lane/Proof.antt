@@ -2,7 +2,7 @@
 use mathlib.Core.Path.{subst}
 use Prim.Native.Nat.{_-_, _≤_, ℕ}
 use native.Mathlib.Numerals.{add-one}
-use Rattle.records.specs.Levels.{levelCount}
+use Rattle.arrays.specs.Arrays.{levelCount}
 use Rattle.preference.specs.InArrays.{opensAt}
 use Rattle.search.specs.Singles.{BestLane}
 use Rattle.search.proofs.SingleLaws.{lane-more, lane-none}

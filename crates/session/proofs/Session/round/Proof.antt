@@ -30,8 +30,8 @@ answered k o e =
       ),
     )
 
-check-requires : tie.Need-check-requires
-check-requires c κs = search needs
+examine-requires : tie.Need-examine-requires
+examine-requires c κs = search needs
 
 enum-known-checked : tie.Need-enum-known-checked
 enum-known-checked c = search needs
@@ -40,32 +40,32 @@ enum-told : tie.Need-enum-told
 enum-told c = search needs
 
 tested-round-requires : tie.Need-tested-round-requires
-tested-round-requires c κs = c .before .before .check .ensures .1 .0 .accepts .0 (ap checkedOf (c .enum-told .given .1))
+tested-round-requires c κs = c .before .before .before .before .examine .ensures .1 .0 (ap checkedOf (c .before .enum-told .given .1))
 
 returns : tie.Need-returns
 returns c =
-    let k = c .before .before .before .before in
+    let k = c .before .before .before .before .before .before in
     let a = k .before .args in
     answered k _
     (round-tested (now (a .policy)) (sessionOf (a .self)) (moveOf (a .taken)) (outcomeOf (c .tested-round .result))
-    (sym (c .before .before .before .check .ensures .0) ∙ ap checkedOf (c .before .enum-told .given .1)) (c .tested-round .ensures))
+    (sym (c .before .before .before .before .before .examine .ensures .0) ∙ ap checkedOf (c .before .before .enum-told .given .1)) (c .tested-round .ensures))
 
 refused-requires : tie.Need-refused-requires
 refused-requires c κs = search needs
 
 returns-2 : tie.Need-returns-2
 returns-2 c =
-    let k = c .before .before .before .before .before in
+    let k = c .before .before .before .before .before .before in
     let a = k .before .args in
     answered k _
     (round-untested (now (a .policy)) (sessionOf (a .self)) (moveOf (a .taken)) (outcomeOf (c .refused .result)) _
-    (sym (c .before .before .before .before .check .ensures .0) ∙ ap checkedOf (c .before .before .checked .given .1)) (c .refused .ensures))
+    (sym (c .before .before .before .before .before .examine .ensures .0) ∙ ap checkedOf (c .before .before .checked .given .1)) (c .refused .ensures))
 
 pub round-spec : {M : Type 1} → statement M
 round-spec =
     tie.close
     (tie.spec
-    check-requires
+    examine-requires
     enum-known-checked
     enum-told
     tested-round-requires

@@ -12,7 +12,7 @@ use Rattle.session.proofs.ending.ending.Statement.{statement}
 use Rattle.session.proofs.ending.ending.Tie as tie
 
 access-rules-requires : tie.Need-access-rules-requires
-access-rules-requires c κs = (c .before .before .before .before .pre .0, room-start)
+access-rules-requires c κs = let a = c .before .before .before .before .pre .0 in (a .form, (a .levels, room-start))
 
 cast-service : tie.Need-cast-service
 cast-service c = search needs
@@ -30,7 +30,7 @@ returns c =
     let bytes = now (a .policy) in
     let rules = c .before .before .before .before .before .before .before .access-rules in
     let u = c .before .unlocks in
-    ends-grant bytes (slice-bytes bytes (known .shared-slice-known .given)) (known .before .pre .0) _ _ _ _ (rules .ensures) (a .request) (a .shown) (a .declined) _
+    ends-grant bytes (slice-bytes bytes (known .shared-slice-known .given)) (now (a .levels)) (known .before .pre .0) _ _ _ _ (rules .ensures) (a .request) (a .shown) (a .declined) _
     (c .before .before .before .before .before .before .credentials .ensures) (u .result) (u .ensures) (c .if1 .taken)
 
 obtainable-requires : tie.Need-obtainable-requires
@@ -52,7 +52,7 @@ preferred-requires c κs =
       atom = omega (arith, known .before .pre .1);
       apart = obtainable-apart (policyOf bytes) (a .shown) (a .declined) (within .result) (within .ensures);
       alone =
-          locked-alone bytes (slice-bytes bytes (known .shared-slice-known .given)) (known .before .pre .0) _ _ _ _ (rules .ensures) (a .request) (a .shown)
+          locked-alone bytes (slice-bytes bytes (known .shared-slice-known .given)) (now (a .levels)) (known .before .pre .0) _ _ _ _ (rules .ensures) (a .request) (a .shown)
           (a .declined) _ (c .before .before .before .before .before .before .before .before .before .before .before .before .before .credentials .ensures) (u .result)
           (u .ensures) (c .before .before .before .before .before .before .before .if1 .left);
     }
@@ -71,7 +71,7 @@ returns-2 c =
     let weights = c .before .before .before .before .before .before .before .weight-table in
     let found = c .before .preferred in
     c .concluded .ensures
-    ∙ ends-found bytes (slice-bytes bytes (known .shared-slice-known .given)) (known .before .pre .0) _ _ _ _ (rules .ensures) (a .request) (a .shown) (a .declined) _
+    ∙ ends-found bytes (slice-bytes bytes (known .shared-slice-known .given)) (now (a .levels)) (known .before .pre .0) _ _ _ _ (rules .ensures) (a .request) (a .shown) (a .declined) _
     (c .before .before .before .before .before .before .before .before .before .before .before .before .before .before .before .credentials .ensures) (u .result) (u .ensures)
     (c .before .before .before .before .before .before .before .before .before .if1 .left) (within .result) (within .ensures) (weights .result) (weights .ensures) (foundOf (found .result)) (found .ensures)
 
