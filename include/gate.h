@@ -2,12 +2,13 @@
  * needs only memcpy and memset.
  *
  * Each function's reply, and what it leaves in the memory that it is lent, is proved for every input (contracts in
- * crates/capi/src/lib.rt, theorems in crates/packing/specs/Theorems.antt and crates/session_logs/specs/Theorems.antt): it
+ * crates/capi/src/lib.rt, theorems in specs/Theorems.antt of crates/packing, crates/slot_packing and crates/session_logs): it
  * returns, never traps, and reads and writes nothing else. A policy is never written. No function allocates, keeps a pointer
  * or has a state of its own.
  *
  * For a watchdog: a round tries at most 65,535 sets of credentials, and no other function tries any. The deepest stack
- * below the caller was measured as 17,632 bytes in a round, 8,080 for the model and less for the others (docs/PERFORMANCE.md).
+ * below the caller was measured as 17,776 bytes in gate_round, 17,904 in gate_round_at and 8,080 for the model; the test
+ * and the disclosable set take less, and the others were not measured (docs/PERFORMANCE.md).
  *
  * The caller owes what C cannot show: pointers that are not null (also where a length is 0), aligned for their type, to
  * memory that is there and has been written before; no overlap of what one call writes with anything else that it is
@@ -53,7 +54,7 @@ enum { GATE_FRESH = 0, GATE_WAITING = 1, GATE_GRANTED = 2, GATE_DENIED = 3 };
 /* A reply is a number. Bytes that are not named here are 0.
  *
  *   0                   nothing is refused, and there is no more to say; never of a round
- *   byte 0 is not 0     refused with that number, 1 to 13; with 1 to 6, 12 and 13, the policy's, byte 1 is the
+ *   byte 0 is not 0     refused with that number, 1 to 16; with 1 to 6, 12 and 13, the policy's, byte 1 is the
  *                       number of its record, counted from 0, or with 6 the number of all its records
  *   byte 0 is 0         a round, not refused: byte 1 is 1 for grant, 2 for deny, 3 for a question; the set asked for is
  *                       GATE_ASKED of the session that the round leaves
@@ -86,6 +87,36 @@ uint32_t gate_open(uint16_t request, gate_session *session);
  * above 3, or something asked for in a session that is not waiting); 7 for its request; 8 where it is not sound; 9 where it is
  * closed. */
 uint32_t gate_round(const uint8_t *policy, size_t length, gate_session *session, uint16_t shown);
+
+/* A table (document 02, R-5) is slots, lent by the caller, each empty or holding an owner and a session. A slot is twelve bytes:
+ *
+ *   0      the owner                      2 to 11   the session
+ *   1      1 where the slot is held
+ *
+ * An empty slot is twelve bytes that are 0, and nothing else is. Any other twelve bytes with byte 1 not 1, or with bytes 2 to 11
+ * no session (gate_round says which are none), stand for no slot. Any bytes at all may be handed in, at any address: what is no
+ * slot is never written, is refused 8, and counts for no owner. */
+typedef struct {
+    uint8_t owner;
+    uint8_t held;
+    gate_session session;
+} gate_slot;
+
+/* A table has bytes / 12 slots, numbered from 0; bytes left over at its end belong to none. Only the first 64 can be named: bytes
+ * from 768 on are neither read nor written. A call writes at most the twelve bytes of its slot, and none where it is refused.
+ *
+ * Opening at a slot for an owner: 0, and the slot holds the owner and a fresh session for the request. The slot has to be empty,
+ * or its session closed, whoever owned it. Or the first refusal that applies, and the table as it was: 7 where the request is not
+ * 16 to 62; 14 where there is no slot of that number, or it is above 63; 8 where the twelve bytes are no slot; 15 where the
+ * slot's session is fresh or waiting; 16 where the owner has four or more fresh or waiting sessions in the first 64 slots. */
+uint32_t gate_open_at(gate_slot *slots, size_t bytes, size_t slot, uint8_t owner, uint16_t request);
+
+/* A round of the session at a slot, as gate_round: grant, deny or a question, and the next session in the slot; or the first
+ * refusal that applies, and the table as it was: 1 to 6, 12 or 13 for the policy; 14 where there is no slot of that number, or it
+ * is above 63; 8 where the slot is empty or no slot; 7 for the session's request; 8 where it is not sound; 9 where it is
+ * closed. */
+uint32_t gate_round_at(
+    const uint8_t *policy, size_t length, gate_slot *slots, size_t bytes, size_t slot, uint16_t shown);
 
 /* A log (document 02, R-1) is records of eight bytes, one for each round that was not refused, and nothing else:
  *

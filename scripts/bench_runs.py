@@ -7,31 +7,12 @@ The runs and what they have to print are bench_sessions.py's. Some are given in 
 before the next record is given; in some nothing can be printed, and the program has only to end. Exit statuses are not compared.
 """
 import itertools
-import os
-import pathlib
 import sys
-import tempfile
 
 import bench_sessions
-from processes import copied, ended, ended_by_itself, give, next_output, placed, started
+from processes import ended, ended_by_itself, give, next_output, started
 from stored import ROOT
-
-
-def at_once(program, folder, run):
-    """The input is a file."""
-    (folder / "input").write_bytes(run.input)
-    with open(folder / "input", "rb") as source:
-        return ended(started(program, folder, stdin=source))
-
-
-def in_pieces(*pieces):
-    def way(program, folder, run):
-        process = started(program, folder)
-        for piece in pieces:
-            give(process, piece)
-        return ended(process)
-
-    return way
+from ways import at_once, closed, closed_input, compared, folder_as_input, full, in_pieces, not_read
 
 
 def line_by_line(program, folder, run):
@@ -58,43 +39,6 @@ def left_open(program, folder, run):
     give(process, run.input)
     both = ended_by_itself(process)
     return None if both is None else both[0]
-
-
-def closed_input(program, folder, run):
-    return ended(started(program, folder, stdin=None, preexec_fn=lambda: os.close(0)))
-
-
-def folder_as_input(program, folder, run):
-    source = os.open(folder, os.O_RDONLY)
-    try:
-        return ended(started(program, folder, stdin=source))
-    finally:
-        os.close(source)
-
-
-def full(program, folder, run):
-    with open("/dev/full", "wb") as output:
-        return only_ends(started(program, folder, stdout=output), run)
-
-
-def closed(program, folder, run):
-    return only_ends(started(program, folder, stdout=None, preexec_fn=lambda: os.close(1)), run)
-
-
-def not_read(restore_signals):
-    def way(program, folder, run):
-        process = started(program, folder, restore_signals=restore_signals)
-        process.stdout.close()
-        process.stdout = None
-        return only_ends(process, run)
-
-    return way
-
-
-def only_ends(process, run):
-    """What the run has to print, if the program ends."""
-    give(process, run.input)
-    return None if ended(process) is None else run.printed.encode()
 
 
 def split_runs(runs):
@@ -148,24 +92,4 @@ def all_runs():
         yield from some(runs)
 
 
-def passes(name, run, got):
-    if got == run.printed.encode():
-        return True
-    said = "does not end" if got is None else f"prints {got.decode(errors='replace')!r}, not {run.printed!r}"
-    print(f"failed: {name}: {said if len(said) < 400 else said[:400] + '..'}")
-    return False
-
-
-def main():
-    counts = {True: 0, False: 0}
-    os.umask(0o022)
-    with tempfile.TemporaryDirectory() as space:
-        top = pathlib.Path(space)
-        program = copied(sys.argv[1] if len(sys.argv) > 1 else ROOT / "target/bin/bench", top)
-        for place, (name, run, way) in enumerate(all_runs()):
-            counts[passes(name, run, way(program, placed(top / str(place), run.policy), run))] += 1
-    print(f"{counts[True]} passed, {counts[False]} failed")
-    return 1 if counts[False] else 0
-
-
-sys.exit(main())
+sys.exit(compared(sys.argv[1] if len(sys.argv) > 1 else ROOT / "target/bin/bench", all_runs()))

@@ -4,7 +4,7 @@
     scripts/expected_cases.py            write crates/cases/stdin and crates/cases/stdout
     scripts/expected_cases.py --check    say whether these two files are what the script makes
 
-Rounds, and whether the atoms have levels, are worked out by rounds.py.
+Rounds and the policy's test are worked out by rounds.py.
 
 stdin, for each case, with numbers of two bytes, little-endian:
     what is asked: 1 the policy's test, 2 an opening, 3 a round, 4 an opening and a list of rounds
@@ -29,12 +29,10 @@ import re
 import struct
 import sys
 
-from rounds import POLICY_A, Session, accepted_round, atoms_of, credentials, encoded, is_service, number, refusal, weight, without_levels
+from rounds import POLICY_A, Policy, Session, accepted_round, atoms_of, credentials, encoded, is_service, number, refusal, tested, weight, whole
 from stored import stored
 
 Case = collections.namedtuple("Case", "asked name policy session shown said")
-# The first so many bytes of these records.
-Policy = collections.namedtuple("Policy", "length records")
 TEST, OPENING, ROUND, LIST = range(1, 5)
 MOST_ROUNDS = 4
 PHASES = "fresh", "waiting", "closed granted", "closed denied"
@@ -234,46 +232,6 @@ kind 3 head 255 weight 16
 """
 
 
-def fault(kind, head, positive, negated, earlier):
-    """The number of the first of 3 to 5, 12 and 13 that a record breaks, or None."""
-    if kind not in (1, 2, 3):
-        return 3
-    if kind == 3:
-        return 4 if head > 15 else weight_fault(head, positive, negated, earlier)
-    if kind == 1:
-        if not 16 <= head <= 63:
-            return 4
-        if 63 in positive | negated:
-            return 5
-    else:
-        if head > 15:
-            return 4
-        if negated or any(a > 15 for a in positive):
-            return 5
-    return None
-
-
-def weight_fault(head, positive, negated, earlier):
-    """12 or 13 of a record of kind 3, after the earlier ones, or None."""
-    if number(positive) > 15 or negated:
-        return 12
-    return 13 if any(record[:2] == (3, head) for record in earlier) else None
-
-
-def tested(policy):
-    """What the policy's test says."""
-    if policy.length > 2304:
-        return "refused 1 at 128"
-    count, rest = divmod(policy.length, 18)
-    if rest:
-        return f"refused 2 at {count}"
-    for place, record in enumerate(policy.records[:count]):
-        broken = fault(*record, policy.records[:place])
-        if broken:
-            return f"refused {broken} at {place}"
-    return f"refused 6 at {count}" if without_levels(policy.records[:count]) else "accepted"
-
-
 def fields(session):
     word, question = session.phase
     waits = f" {number(question):04x}" if word == "waiting" else ""
@@ -303,10 +261,6 @@ def replayed(policy, request, shown):
     for some in shown if is_service(request) else ():
         said, session = outcome(policy, session, some)
     return said
-
-
-def whole(records):
-    return Policy(18 * len(records), records)
 
 
 def made(request, shown, declined, count, word, question=0):

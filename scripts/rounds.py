@@ -1,11 +1,13 @@
-"""Document 01's records and sessions with document 02's weights (R-2) and levels (R-4), from their definitions and not from our code.
+"""Document 01's records, policies and sessions with document 02's weights (R-2) and levels (R-4), from their definitions and not from our code.
 
-A policy is a list of records: kind, head, positive atoms, negated atoms.
+A policy is a list of records: kind, head, positive atoms, negated atoms. What is tested is so many bytes of one.
 """
 import collections
 import itertools
 
 Session = collections.namedtuple("Session", "request shown declined count phase")
+# The first so many bytes of these records.
+Policy = collections.namedtuple("Policy", "length records")
 EMPTY = frozenset()
 FEW = 10  # of so many heads all sets are tried
 POLICY_A = [
@@ -71,6 +73,50 @@ def without_levels(policy):
     rules = [record[1:] for record in policy if record[0] == 1]
     reached = {atom: below(rules, atom) for _, _, negated in rules for atom in negated}
     return any(head in reached[atom] for head, _, negated in rules for atom in negated)
+
+
+def fault(kind, head, positive, negated, earlier):
+    """The number of the first of 3 to 5, 12 and 13 that a record breaks, or None."""
+    if kind not in (1, 2, 3):
+        return 3
+    if kind == 3:
+        return 4 if head > 15 else weight_fault(head, positive, negated, earlier)
+    if kind == 1:
+        if not 16 <= head <= 63:
+            return 4
+        if 63 in positive | negated:
+            return 5
+    else:
+        if head > 15:
+            return 4
+        if negated or any(a > 15 for a in positive):
+            return 5
+    return None
+
+
+def weight_fault(head, positive, negated, earlier):
+    """12 or 13 of a record of kind 3, after the earlier ones, or None."""
+    if number(positive) > 15 or negated:
+        return 12
+    return 13 if any(record[:2] == (3, head) for record in earlier) else None
+
+
+def tested(policy):
+    """What the policy's test says."""
+    if policy.length > 2304:
+        return "refused 1 at 128"
+    count, rest = divmod(policy.length, 18)
+    if rest:
+        return f"refused 2 at {count}"
+    for place, record in enumerate(policy.records[:count]):
+        broken = fault(*record, policy.records[:place])
+        if broken:
+            return f"refused {broken} at {place}"
+    return f"refused 6 at {count}" if without_levels(policy.records[:count]) else "accepted"
+
+
+def whole(records):
+    return Policy(18 * len(records), records)
 
 
 def is_stable(rules, shown, tried):

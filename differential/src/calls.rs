@@ -48,6 +48,28 @@ impl Call {
     }
 }
 
+/// An operation on a table of slots, gate_open_at or gate_round_at; table and policy come beside it.
+#[derive(Clone, Copy, PartialEq, Eq, Debug)]
+pub enum Operation {
+    Open {
+        slot: usize,
+        owner: u8,
+        request: u16,
+    },
+    Round {
+        slot: usize,
+        p: u16,
+    },
+}
+
+impl Operation {
+    pub fn slot(self) -> usize {
+        match self {
+            Operation::Open { slot, .. } | Operation::Round { slot, .. } => slot,
+        }
+    }
+}
+
 /// Where a session or a set stands in the memory: guard bytes are before and after it.
 pub const PLACE: usize = 8;
 
@@ -103,6 +125,11 @@ pub trait Version {
     /// gate_compare_logs; the plain version's where there is no other.
     fn compare_logs(&mut self, first: &mut [u8], second: &mut [u8], memory: &mut Memory) -> u32 {
         Plain.compare_logs(first, second, memory)
+    }
+
+    /// gate_open_at or gate_round_at; the plain version's where there is no other. An opening does not look at the policy.
+    fn operate(&mut self, operation: Operation, policy: &mut [u8], table: &mut [u8]) -> u32 {
+        Plain.operate(operation, policy, table)
     }
 }
 

@@ -5,6 +5,7 @@ use crate::calls::{ending_of, refusal_of, Call, DENY, GRANT};
 use crate::level_counts::LevelCounts;
 use crate::log_counts::LogCounts;
 use crate::question_counts::QuestionCounts;
+use crate::table_counts::TableCounts;
 use crate::weight_counts::WeightCounts;
 use crate::weighted::counts::WeightedCounts;
 
@@ -87,6 +88,7 @@ pub struct Counts {
     pub weights: WeightCounts,
     pub levels: LevelCounts,
     pub logs: LogCounts,
+    pub tables: TableCounts,
     pub bench: BenchCounts,
     pub weighted: WeightedCounts,
     pub disagreements: u64,
@@ -157,6 +159,7 @@ impl Counts {
         self.weights.add(&other.weights);
         self.levels.add(&other.levels);
         self.logs.add(&other.logs);
+        self.tables.add(&other.tables);
         self.bench.add(&other.bench);
         self.weighted.add(&other.weighted);
         self.disagreements += other.disagreements;
@@ -189,6 +192,7 @@ impl Counts {
         missing.extend(self.weights.missing());
         missing.extend(self.levels.missing());
         missing.extend(self.logs.missing());
+        missing.extend(self.tables.missing());
         missing.extend(self.bench.missing());
         missing.extend(self.weighted.missing());
         missing
@@ -223,6 +227,7 @@ impl Counts {
         println!("  by all stable sets tried: {}", self.all_stable_sets);
         println!("  by the tuned version: {}", self.tuned);
         self.logs.print();
+        self.tables.print();
         self.bench.print();
         self.weighted.print();
     }

@@ -1,7 +1,9 @@
-//! Document 01 and document 02's weights and levels once more, read as they stand: nothing is computed cleverly, sets are
+//! Document 01 and document 02's weights, levels and tables once more, read as they stand: nothing is computed cleverly, sets are
 //! looked for among all sets. It is a second opinion on the plain version, on cases small enough for it.
 
-use crate::calls::{Call, Memory, Version};
+mod tables;
+
+use crate::calls::{Call, Memory, Operation, Version};
 use crate::plain::interface::{decode, encode, ending_reply, refusal_reply};
 use crate::plain::policy::{Policy, Record, Refusal};
 use crate::plain::session::{Ending, Phase, Session, Verdict};
@@ -285,6 +287,10 @@ impl Version for Definition {
             _ => {}
         }
         0
+    }
+
+    fn operate(&mut self, operation: Operation, policy: &mut [u8], table: &mut [u8]) -> u32 {
+        tables::operate(operation, policy, table)
     }
 }
 

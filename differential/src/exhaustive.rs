@@ -10,6 +10,7 @@ use crate::marked::policy_a;
 use crate::plain::policy::Record;
 use crate::policies::{access, disclosure, encode, weight};
 use crate::questions::{every_block, every_size};
+use crate::tables::every_table;
 use crate::tester::Tester;
 
 fn check(tester: &mut Tester, policy: Vec<u8>) {
@@ -216,6 +217,7 @@ pub fn exhaustive(tester: &mut Tester) {
     requests(tester);
     sessions(tester);
     every_log(tester);
+    every_table(tester);
     every_size(tester);
     every_block(tester);
 }

@@ -1,6 +1,6 @@
 //! The gate itself, through its C interface. The only file with unsafe code.
 
-use crate::calls::{Call, Memory, Version, PLACE};
+use crate::calls::{Call, Memory, Operation, Version, PLACE};
 use crate::weighted::Search;
 
 #[link(name = "capi", kind = "static")]
@@ -17,6 +17,15 @@ extern "C" {
         second: *const u8,
         second_length: usize,
         record: *mut usize,
+    ) -> u32;
+    fn gate_open_at(slots: *mut u8, bytes: usize, slot: usize, owner: u8, request: u16) -> u32;
+    fn gate_round_at(
+        policy: *const u8,
+        length: usize,
+        slots: *mut u8,
+        bytes: usize,
+        slot: usize,
+        shown: u16,
     ) -> u32;
 }
 
@@ -82,6 +91,28 @@ impl Version for Gate {
         // SAFETY: each log's pointer is valid for its length; the place is aligned to 8 and has 24 bytes after it; the three are
         // borrowed mutably and so do not overlap.
         unsafe { gate_compare_logs(one, first.len(), other, second.len(), place) }
+    }
+
+    fn operate(&mut self, operation: Operation, policy: &mut [u8], table: &mut [u8]) -> u32 {
+        operate(operation, policy, table)
+    }
+}
+
+/// An opening or a round at a slot: the reply, the table changed in place.
+pub fn operate(operation: Operation, policy: &[u8], table: &mut [u8]) -> u32 {
+    let (bytes, length) = (policy.as_ptr(), policy.len());
+    let (slots, size) = (table.as_mut_ptr(), table.len());
+    // SAFETY: the policy's pointer is valid for its length, the table's for its own; the table is borrowed mutably, so that the
+    // two do not overlap.
+    unsafe {
+        match operation {
+            Operation::Open {
+                slot,
+                owner,
+                request,
+            } => gate_open_at(slots, size, slot, owner, request),
+            Operation::Round { slot, p } => gate_round_at(bytes, length, slots, size, slot, p),
+        }
     }
 }
 

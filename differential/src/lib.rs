@@ -30,6 +30,8 @@ pub mod scenarios;
 pub mod sessions;
 pub mod slips;
 pub mod stack;
+pub mod table_counts;
+pub mod tables;
 pub mod tester;
 pub mod tuned;
 pub mod weighing;

@@ -1,10 +1,11 @@
-//! Document 01's own examples ("Marked for proof, and others"), and some of weights and levels: what is said of each, of any
-//! version.
+//! Document 01's own examples ("Marked for proof, and others"), and some of weights, levels and tables: what is said of each, of
+//! any version.
 
 use crate::calls::{asked_of, ending_of, refusal_of, Call, Memory, Version, ASK, DENY, GRANT};
 use crate::leveling::ring;
 use crate::plain::policy::Record;
 use crate::policies::{access, disclosure, encode, weight};
+use crate::tables;
 
 /// "Policy A: 16 if 0, 1; 16 if 2, not 3; 63 if 0, 2; disclosure 0 always; 1 if 0; 2 always."
 pub fn policy_a() -> Vec<u8> {
@@ -113,6 +114,7 @@ pub fn marked(v: &mut dyn Version) -> Vec<(&'static str, bool)> {
     let mut all = written_examples(v);
     all.extend(weighed_examples(v));
     all.extend(levelled_examples(v));
+    all.extend(tables::examples(v));
     all
 }
 

@@ -112,7 +112,7 @@ fn hold_to_log(tester: &mut Tester, list: &List) {
             format!("log: {}", hex(&list.log)),
             format!("of the list: {}", hex(&wanted)),
         ];
-        tester.found_in_logs("the log of a list", &lines);
+        tester.found_in("the log of a list", &lines);
     }
 }
 

@@ -11,6 +11,7 @@ use crate::policies;
 use crate::questions::questions;
 use crate::requests::{credentials, named, request};
 use crate::sessions;
+use crate::tables::tables;
 use crate::tester::Tester;
 
 fn openings(tester: &mut Tester) {
@@ -129,6 +130,9 @@ const QUESTIONS_IN: usize = 100;
 /// And one in so many is about logs that are made up.
 const LOGS_IN: usize = 20;
 
+/// And one in so many is a list of operations on a table.
+const TABLES_IN: usize = 40;
+
 /// One scenario.
 pub fn scenario(tester: &mut Tester) {
     if tester.random.one_in(LOGS_IN) {
@@ -136,6 +140,9 @@ pub fn scenario(tester: &mut Tester) {
     }
     if tester.random.one_in(QUESTIONS_IN) {
         return questions(tester);
+    }
+    if tester.random.one_in(TABLES_IN) {
+        return tables(tester);
     }
     match tester.random.below(100) {
         0..=2 => openings(tester),

@@ -1,6 +1,8 @@
 //! Runs cases: one call of the version under test and of the plain version, all that they answer compared.
 
+mod lent;
 mod logs;
+mod tables;
 
 use crate::calls::{refusal_of, Call, Memory, Version};
 use crate::counts::{Counts, Kind};
@@ -107,13 +109,19 @@ impl<'a> Tester<'a> {
         let (front, end) = (self.front, self.lent.len() - GUARD);
         let lent = &mut self.lent[front..end];
         let reply = self.subject.call(call, lent, &mut memory);
+        (reply, memory, self.policy_kept())
+    }
+
+    /// Whether the lent policy and its guard bytes are as they were; they are, afterwards.
+    fn policy_kept(&mut self) -> bool {
+        let (front, end) = (self.front, self.lent.len() - GUARD);
         let kept = self.lent[front..end] == self.policy
             && self.lent[..front].iter().all(|byte| *byte == 0xa5)
             && self.lent[end..] == [0x5a; GUARD];
         if !kept {
             self.lent = guarded(&self.policy, front);
         }
-        (reply, memory, kept)
+        kept
     }
 
     fn ask_oracle(&mut self, call: Call, before: Memory) -> (u32, Memory) {
@@ -247,6 +255,15 @@ impl<'a> Tester<'a> {
             self.found("stable sets".to_string(), call, before, answers);
         }
         agreed
+    }
+
+    /// A disagreement with no single call to it, about logs or tables.
+    pub fn found_in(&mut self, title: &str, lines: &[String]) {
+        self.counts.disagreements += 1;
+        if self.counts.first_disagreement == 0 {
+            self.counts.first_disagreement = self.counts.cases().max(1);
+        }
+        self.shared.tell(title, lines);
     }
 
     /// Writes a finding down with the policy and list as they are.

@@ -1,9 +1,11 @@
-// The gate for C (include/gate.h): a policy is bytes, a session is ten bytes that the caller lends, and an answer is a number.
+// The gate for C (include/gate.h): a policy is bytes, a session is ten bytes that the caller lends, a table of slots twelve for
+// each, and an answer is a number.
 ghost use mathlib.Core.Path.{_≡_};
 ghost use Rattle.form.specs.PolicyTest.{policyRefusal};
 ghost use Rattle.disclosure.specs.Answers.{disclosableAnswer};
 ghost use Rattle.model.specs.Answers.{modelAnswer};
 ghost use Rattle.packing.specs.Exports.{checkReply, noSessionReply, openCall, roundCall, setAfter, setReply};
+ghost use Rattle.slot_packing.specs.Calls.{openAtCall, roundAtCall};
 ghost use Rattle.logs.specs.Comparison.{compared};
 ghost use Rattle.session_logs.specs.Exports.{comparisonReply, placeAfter, recordCall};
 use disclosure::Disclosed;
@@ -17,6 +19,8 @@ use session::Move;
 use session::Opened;
 use session::Session;
 use session::answer::Answer;
+use table_wire::open_at;
+use table_wire::round_at;
 use wire::packed::RECORD_BYTES;
 use wire::packed::Unpacked;
 use wire::packed::pack;
@@ -129,6 +133,25 @@ pub extern "C" fn gate_compare_logs(first: &[u8], second: &[u8], place: &mut usi
     ensures unchanged { λ _. ⌜ (now (first .exit) ≡ now (first .entry)) × (now (second .exit) ≡ now (second .entry)) ⌝ }
 {
     compare_logs(first, second, place)
+}
+
+// An opening at a slot of a table for an owner; the slot is written unless the opening is refused.
+#[no_mangle]
+pub extern "C" fn gate_open_at(table: &mut [u8], slot: usize, owner: u8, request: u16) -> u32
+    ensures answer { λ r. ⌜ r ≡ openAtCall (now (table .entry)) slot owner request .reply ⌝ }
+    ensures written { λ _. ⌜ now (table .exit) ≡ openAtCall (now (table .entry)) slot owner request .leaves ⌝ }
+{
+    open_at(table, slot, owner, request)
+}
+
+// A round of the session at a slot of a table; the slot is written unless the round is refused.
+#[no_mangle]
+pub extern "C" fn gate_round_at(policy: &[u8], table: &mut [u8], slot: usize, shown: u16) -> u32
+    ensures answer { λ r. ⌜ r ≡ roundAtCall (now (policy .entry)) (now (table .entry)) slot shown .reply ⌝ }
+    ensures written { λ _. ⌜ now (table .exit) ≡ roundAtCall (now (policy .entry)) (now (table .entry)) slot shown .leaves ⌝ }
+    ensures unchanged { λ _. ⌜ now (policy .exit) ≡ now (policy .entry) ⌝ }
+{
+    round_at(policy, table, slot, shown)
 }
 
 // What is no session is refused 8, after the policy's test.

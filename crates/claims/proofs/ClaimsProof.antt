@@ -34,12 +34,19 @@ use Rattle.demands.proofs.WeightsProof.{weights-aside}
 use Rattle.marked.proofs.MarkedCases.{marked}
 use Rattle.marked.proofs.WeightedCases.{weighted}
 use Rattle.former.proofs.TheoremsProof as former
+use Rattle.slots.proofs.TheoremsProof as slots
+use Rattle.operations.proofs.TheoremsProof as operations
 use Rattle.session.proofs.TheoremsProof as session
+use Rattle.slot_steps.proofs.TheoremsProof as slot-steps
+use Rattle.occupancy.proofs.TheoremsProof as occupancy
+use Rattle.table_calls.proofs.TheoremsProof as table-calls
 use Rattle.replay.proofs.TheoremsProof as replay
 use Rattle.packing.proofs.TheoremsProof as packing
+use Rattle.slot_packing.proofs.TheoremsProof as slot-packing
 use Rattle.transcript.proofs.TheoremsProof as transcript
 use Rattle.console.proofs.TheoremsProof as console
 use Rattle.lines.proofs.TheoremsProof as lines
+use Rattle.station_lines.proofs.TheoremsProof as station-lines
 use Rattle.logs.proofs.TheoremsProof as logs
 use Rattle.session_logs.proofs.TheoremsProof as session-logs
 use Rattle.entries.proofs.TheoremsProof as entries
@@ -60,6 +67,8 @@ claims = record {
     weight = refl;
     refused-6-at-0 = (refl, refl);
     refused-n-at-k = λ n k. (refl, refl);
+    slots = refl;
+    sessions = refl;
   };
   bytes = encoding.theorems;
   tests = validation.theorems;
@@ -110,4 +119,11 @@ claims = record {
   comparisons = log.theorems;
   round-records = recorder.theorems;
   recording = recording.theorems;
+  slots = slots.theorems;
+  operations = operations.theorems;
+  slot-types = slot-steps.theorems;
+  tables = occupancy.theorems;
+  table-calls = table-calls.theorems;
+  packed-tables = slot-packing.theorems;
+  station = station-lines.theorems;
 }

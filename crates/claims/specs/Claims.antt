@@ -30,13 +30,22 @@
 -- marked: policyA, policyB, unlocksBy, turns, answers, lines, asking; threeWays, askedInTurn
 -- former: level; the statements that FormerForm lists, FormerlyWellFormed, FormerlyRefused, FormerlyTested; formerModel, formerDisclosable,
 --   formerRound, formerRounds, Unchanged
+-- slots: Slot, slotAt, InTable, Unfinished, HoldsUnfinished, Free, UnfinishedOf, FallingBelow, Owns, Fits; the statements that OpeningForm and
+--   RoundAtForm list, and OpeningNumbers, RoundAtNumbers, which say the same without the lists; Reply, OpeningAtMeets, RoundAtMeets
+-- operations: Operation, named, Answered, operate, Step, stepsOf, Fitting, AllEmpty, AtMostFour, SoundSlot; roundsAt, turnsAt, movesAt, NotOpened, OnePolicy,
+--   OneSession, and what Examples names
+-- table_calls: Call, leftBy, stepOf, operationOf, Calls, Kept
 -- replay: Calls, turnOf, movesOf
 -- packing: Packable, packed, unpacked, tenBytes, Call, openCall, roundCall, callsFrom, checkReply, setReply, setAfter, replyFor, callOf, Told with
 --   its parts, askedIn, and what Examples names
+-- slot_packing: packedSlot, unpackedSlot, packedTable, openAtCall, roundAtCall, tableCalls, PackableSlot, twelveAt, There, NoSlot, Reads, OthersKept,
+--   beforeOthers, openReplyFor, answeredFor, callFor, FourInBytes
 -- transcript: ascii, Says, Hexadecimal, Decimal; Event, events, inputRecords; printed, output, recordsOutput, refusedLine, roundLine, roundLines;
 --   Reader, begun, isEnded, byteStep, bytesRun, readStep, readsRun, toldBy, printedBy
 -- console: Calls, turnOf, inputOf, toldIn, readerAfter, readerOf, eventsOf, stepOf
 -- lines: textOf, Prints, Printing, callsIn, textIn, Printings
+-- station_table: emptyTable, countAt
+-- station_lines: openingLine, roundAtLine; operationsIn, printedBy, stationOutput; recordStep, Does, Calls, inputOf, textIn
 -- logs: Entry, readEntry, writeEntry, entryAt, entriesOf, FitsEntry, SaidAt; HasEntry, Whole, SoundEntry, SoundLog, UnsoundLog; Agree, Agreeing,
 --   AgreeAt, DifferAt, EndsAt, PartAt, compared, Compares, and what Examples names
 -- session_logs: roundRecord, endingEntry, Recordable, RecordBytes, SameRound; logOf, LogSays, Played; Said, saidOf, endingsOf, Meets, BreaksBy,
@@ -45,9 +54,9 @@
 --   noticeIn
 -- recorder: Flagged, flagged, recordIn
 -- and the cases of the types among them, and the maps from the program's types (specs/Types of records, policy, disclosure, model, search, question,
--- session, replay, entries, log and recorder; specs/Steps of console). What a word computes is no matter of belief where a theorem here says what it
+-- session, slot_steps, occupancy, station_table, replay, entries, log and recorder; specs/Steps of console). What a word computes is no matter of belief where a theorem here says what it
 -- gives: the operations on sets, the closure, the model, the disclosable set, the tests, the preferred question, the sets shown and declined, the
--- digits. That lent bytes are not written stands in the contract of each open function, demands 1 and 2 of each call in those of `open` and `round`,
+-- digits. That lent bytes are not written stands in the contract of each open function, demands 1 and 2 of each call in those of `open`, `round` and `round_at`,
 -- demand 3 of a whole list in that of `replay`, and that an event's line says its text in that of `of_event`. Assumes nothing.
 use mathlib.Core.Path.{_≡_}
 use mathlib.Core.List.{List}
@@ -91,12 +100,19 @@ use Rattle.demands.specs.Weights.{WeightsAside}
 use Rattle.marked.specs.Marked.{Marked}
 use Rattle.marked.specs.Weighted.{Weighted}
 use Rattle.former.specs.Theorems as former
+use Rattle.slots.specs.Theorems as slots
+use Rattle.operations.specs.Theorems as operations
 use Rattle.session.specs.Theorems as session
+use Rattle.slot_steps.specs.Theorems as slotSteps
+use Rattle.occupancy.specs.Theorems as occupancy
+use Rattle.table_calls.specs.Theorems as tableCalls
 use Rattle.replay.specs.Theorems as replay
 use Rattle.packing.specs.Theorems as packing
+use Rattle.slot_packing.specs.Theorems as slotPacking
 use Rattle.transcript.specs.Theorems as transcript
 use Rattle.console.specs.Theorems as console
 use Rattle.lines.specs.Theorems as lines
+use Rattle.station_lines.specs.Theorems as stationLines
 use Rattle.logs.specs.Theorems as logs
 use Rattle.session_logs.specs.Theorems as sessionLogs
 use Rattle.entries.specs.Theorems as entries
@@ -195,3 +211,16 @@ pub record Claims : Type 1 where
   pub round-records : recorder.Theorems
   -- what the program that records a session's log writes
   pub recording : recording.Theorems
+  -- document 02, R-5: slots, and when an opening and a round at one are answered how
+  pub slots : slots.Theorems
+  -- every list of openings and rounds: four of an owner's at most, sound sessions, what is never read, and demand 3 at a slot
+  pub operations : operations.Theorems
+  -- what the program's slots, lists of them and answers mean is one-to-one
+  pub slot-types : slotSteps.Theorems
+  pub tables : occupancy.Theorems
+  -- four at most, sound sessions and demand 3 at a slot, of lists of calls of the program's functions
+  pub table-calls : tableCalls.Theorems
+  -- tables of slots in bytes: each slot's twelve bytes, what each call from C replies and leaves, and lists of calls
+  pub packed-tables : slotPacking.Theorems
+  -- what the station program prints, from the bytes of two files, and that the lines of its calls are this
+  pub station : stationLines.Theorems

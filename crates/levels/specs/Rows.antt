@@ -15,7 +15,7 @@ module _ (bytes : List ℕ) where
     pub before : j < n
     pub kind : recordAt bytes j .kind ≡ accessKind
 
-  -- the rows of the first n records: all that their rules have, and nothing else
+  -- the rows of the first n records: all that their rules have, and of bodies nothing else; each head is among the heads
   pub record Gathered (n : ℕ) (rows negated : List ℕ) (heads : ℕ) : Type 0 where
     pub head : (j : ℕ) → Access n j → Member (recordAt bytes j .rule .head) heads
     pub body : (j : ℕ) → Access n j → (k : ℕ) → InBody k (recordAt bytes j .rule) → Member k (getD rows (recordAt bytes j .rule .head) 0)

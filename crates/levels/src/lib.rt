@@ -11,7 +11,7 @@ mod rows;
 mod settle;
 mod walk;
 
-// A level for each atom, where every access rule keeps them.
+// Whether there are levels that every access rule keeps, and, if so, a level for each atom.
 pub struct Levels {
     pub found: bool,
     pub of: [u8; 64],

@@ -1,15 +1,16 @@
-// The bench program's lines (document 01, "The bench program"): the line of an event, which is that of a round or of a refusal.
+// The bench program's lines (document 01, "The bench program"): the line of an event, which is that of a round or of a refusal. The station program's
+// have a number in front.
 ghost use mathlib.Core.List.{_++_};
 ghost use Prim.Native.Nat.{_+_, _≤_};
 ghost use lib.ListN.{length};
 ghost use Rattle.rounds.specs.Refusals.{number, ofPolicy};
 ghost use Rattle.session.specs.Types.{endingOf, moveOf, outcomeOf, refusalOf};
 ghost use Rattle.policy.specs.Types.{refusalOf as policyRefusalOf};
-ghost use Rattle.transcript.specs.Numerals.{decimal};
+ghost use Rattle.transcript.specs.Numerals.{ascii, decimal};
 ghost use Rattle.transcript.specs.Lines.{gotText, line, refusedLine, roundLine, roundText};
 ghost use Rattle.transcript.specs.Output.{printed};
 ghost use Rattle.console.specs.Steps.{eventsOf};
-ghost use Rattle.lines.specs.Lines.{Prints};
+ghost use Rattle.lines.specs.Lines.{Prints, Room, textOf};
 use console::event::Event;
 use line::Line;
 use session::Move;
@@ -44,7 +45,7 @@ pub fn of_round(taken: Move, outcome: Outcome) -> Line
 }
 
 // The line of a round that is not refused.
-fn of_ending(count: u8, taken: Move, ending: Ending) -> Line
+pub fn of_ending(count: u8, taken: Move, ending: Ending) -> Line
     ensures { λ r. ⌜ Prints r (line (roundText count (moveOf taken) (endingOf ending))) ⌝ }
 {
     let line = got(count, taken);
@@ -76,7 +77,7 @@ pub fn of_refusal(refusal: Refusal) -> Line
 }
 
 // The line of a refusal that has a number alone.
-fn by_number(n: u8) -> Line
+pub fn by_number(n: u8) -> Line
     ensures { λ r. ⌜ Prints r (refusedLine (number n)) ⌝ }
 {
     numbered(b"refused ", n).text(b"\n")
@@ -88,6 +89,24 @@ pub fn of_refused_policy(refusal: policy::refusal::Refusal) -> Line
 {
     let line = numbered(b"refused ", refusal.number()).text(b" at ");
     line.decimal(refusal.record()).text(b"\n")
+}
+
+// The line of an opening that is not refused.
+pub fn opened() -> Line
+    ensures { λ r. ⌜ Prints r (line (ascii "opened")) ⌝ }
+{
+    Line::empty().text(b"opened\n")
+}
+
+// A number in front of a line.
+pub fn after_number(number: u8, line: Line) -> Line
+    requires { ⌜ Room line 4 ⌝ }
+    ensures { λ r. ⌜ Prints r (decimal number ++ (ascii " " ++ textOf line)) ⌝ }
+{
+    let bytes = line.bytes;
+    let length = line.length;
+    let front = Line::empty().decimal(number).text(b" ");
+    front.text(&bytes[..length])
 }
 
 // A text and a number.

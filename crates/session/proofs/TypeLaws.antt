@@ -67,12 +67,12 @@ unfolding sessionBack
 session-back x =
     ap (λ (p : Phase). record { request = x .request; shown = x .shown; declined = x .declined; count = x .count; phase = p }) (phase-back (x .phase))
 
-endingBack : E.Ending → Ending
+pub endingBack : E.Ending → Ending
 endingBack E.grant = Grant
 endingBack E.deny = Deny
 endingBack (E.ask q) = Ask (questionBack q)
 
-ending-back : (x : Ending) → endingBack (endingOf x) ≡ x
+pub ending-back : (x : Ending) → endingBack (endingOf x) ≡ x
 unfolding endingBack
 ending-back Grant = refl
 ending-back Deny = refl

@@ -6,7 +6,8 @@ use super::log;
 use super::model::model;
 use super::policy::{check, Refusal};
 use super::session::{open, round, Ending, Phase, Session, Verdict};
-use crate::calls::{asked_of, Call, Memory, Version, PART};
+use super::table_bytes::operate;
+use crate::calls::{asked_of, Call, Memory, Operation, Version, PART};
 
 /// Byte 0 is the number of the refusal, byte 1 that of the policy's record, where it has one.
 pub fn refusal_reply(refusal: Refusal) -> u32 {
@@ -133,5 +134,9 @@ impl Version for Plain {
             }
             Err(number) => u32::from(number),
         }
+    }
+
+    fn operate(&mut self, operation: Operation, policy: &mut [u8], table: &mut [u8]) -> u32 {
+        operate(operation, policy, table).unwrap_or_else(refusal_reply)
     }
 }

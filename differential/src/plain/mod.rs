@@ -1,5 +1,5 @@
-//! Document 01, and document 02's logs, weights and levels, in plain Rust, written from the papers alone: each function has the
-//! paper's sentence above it.
+//! Document 01, and document 02's logs, weights, levels and tables, in plain Rust, written from the papers alone: each function has
+//! the paper's sentence above it.
 
 pub mod bench;
 pub mod disclosure;
@@ -10,4 +10,6 @@ pub mod log;
 pub mod model;
 pub mod policy;
 pub mod session;
+pub mod table_bytes;
+pub mod tables;
 pub mod weights;

@@ -7,11 +7,12 @@ mod model;
 mod names;
 mod policy;
 mod round;
+mod tables;
 mod weights;
 
 pub use names::{Slip, Slipped, CONTROLS, SLIPS};
 
-use crate::calls::{Call, Memory, Version};
+use crate::calls::{Call, Memory, Operation, Version};
 use crate::plain::interface::refusal_reply;
 use crate::plain::policy::Refusal;
 
@@ -50,5 +51,10 @@ impl Version for Slipped {
 
     fn compare_logs(&mut self, first: &mut [u8], second: &mut [u8], memory: &mut Memory) -> u32 {
         self.compare(first, second, memory)
+    }
+
+    fn operate(&mut self, operation: Operation, policy: &mut [u8], table: &mut [u8]) -> u32 {
+        self.at(operation, policy, table)
+            .unwrap_or_else(refusal_reply)
     }
 }

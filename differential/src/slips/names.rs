@@ -136,6 +136,59 @@ pub enum Slip {
     NineOfLevels,
     FallingLevels,
     HoldsItself,
+    ClosedCounted,
+    LastUncounted,
+    FirstUncounted,
+    PastCounted,
+    FreshUncounted,
+    WaitingUncounted,
+    UnsoundUncounted,
+    TakenCounted,
+    AnyOwner,
+    OwnerZero,
+    CountUpTo,
+    StopsAtEmpty,
+    LimitThree,
+    LimitFive,
+    WaitingTaken,
+    FreshTaken,
+    ClosedKept,
+    ClosedOfAnother,
+    SixteenFirst,
+    FifteenFirst,
+    FourteenFirst,
+    OpeningTested,
+    FourteenEarly,
+    EmptyEarly,
+    EmptyAsNine,
+    EmptyAsSeven,
+    PastEmpty,
+    SlotSixtyFour,
+    SlotUnbounded,
+    SlotSixtyThree,
+    SlotSixBits,
+    SlotByte,
+    SlotWord,
+    SlotWraps,
+    SlotInReply,
+    TailSlot,
+    TailCleared,
+    OpeningResets,
+    RoundResets,
+    NextOwner,
+    NextSession,
+    OwnersFirst,
+    OwnerForgotten,
+    OwnerKept,
+    ShownKept,
+    NoSlotCounted,
+    NoSlotTaken,
+    NoSlotFifteen,
+    NoSlotFirst,
+    NoSlotLast,
+    NoSlotNine,
+    HeldAlone,
+    HeldTwo,
 }
 
 /// The same code with nothing wrong in it, its candidates sorted, and by blocks.
@@ -145,7 +198,7 @@ pub const CONTROLS: [(Slip, &str); 2] = [
 ];
 
 /// Each slip with what is wrong.
-pub const SLIPS: [(Slip, &str); 132] = [
+pub const SLIPS: [(Slip, &str); 185] = [
     (
         Slip::BreachUnread,
         "grants on the service alone, the breach mark unread",
@@ -478,6 +531,167 @@ pub const SLIPS: [(Slip, &str); 132] = [
     (
         Slip::HoldsItself,
         "levels: a positive loop that nothing enters holds itself",
+    ),
+    (
+        Slip::ClosedCounted,
+        "tables: closed sessions count against 16",
+    ),
+    (
+        Slip::LastUncounted,
+        "tables: the last slot left out of the count",
+    ),
+    (
+        Slip::FirstUncounted,
+        "tables: the first slot left out of the count",
+    ),
+    (Slip::PastCounted, "tables: slots past the 64th counted"),
+    (
+        Slip::FreshUncounted,
+        "tables: fresh sessions left out of the count",
+    ),
+    (
+        Slip::WaitingUncounted,
+        "tables: waiting sessions left out of the count",
+    ),
+    (
+        Slip::UnsoundUncounted,
+        "tables: unsound sessions left out of the count",
+    ),
+    (
+        Slip::TakenCounted,
+        "tables: the closed session that is to be taken over counted",
+    ),
+    (Slip::AnyOwner, "tables: any owner's sessions counted"),
+    (Slip::OwnerZero, "tables: owner 0 taken for nobody"),
+    (
+        Slip::CountUpTo,
+        "tables: only the slots before the one named counted",
+    ),
+    (
+        Slip::StopsAtEmpty,
+        "tables: the count ends at the first empty slot",
+    ),
+    (Slip::LimitThree, "tables: 16 from three sessions on"),
+    (Slip::LimitFive, "tables: 16 from five sessions on"),
+    (Slip::WaitingTaken, "tables: a waiting slot taken over"),
+    (Slip::FreshTaken, "tables: a fresh slot taken over"),
+    (Slip::ClosedKept, "tables: a closed slot refused 15"),
+    (
+        Slip::ClosedOfAnother,
+        "tables: a closed slot of another owner refused 15",
+    ),
+    (Slip::SixteenFirst, "tables: 16 tested before 15"),
+    (Slip::FifteenFirst, "tables: 15 tested before 14"),
+    (Slip::FourteenFirst, "tables: 14 tested before 7"),
+    (Slip::OpeningTested, "tables: the policy tested at opening"),
+    (
+        Slip::FourteenEarly,
+        "tables: in a round, 14 tested before the policy",
+    ),
+    (
+        Slip::EmptyEarly,
+        "tables: in a round, an empty slot tested before the policy",
+    ),
+    (
+        Slip::EmptyAsNine,
+        "tables: a round at an empty slot refused 9",
+    ),
+    (
+        Slip::EmptyAsSeven,
+        "tables: a round at an empty slot refused 7",
+    ),
+    (
+        Slip::PastEmpty,
+        "tables: a round past the end refused 8, as at an empty slot",
+    ),
+    (Slip::SlotSixtyFour, "tables: slot 64 allowed"),
+    (
+        Slip::SlotUnbounded,
+        "tables: all slots of a longer table allowed",
+    ),
+    (Slip::SlotSixtyThree, "tables: slot 63 refused 14"),
+    (
+        Slip::SlotSixBits,
+        "tables: the slot's number cut to six bits",
+    ),
+    (
+        Slip::SlotByte,
+        "tables: the slot's number cut to eight bits",
+    ),
+    (Slip::SlotWord, "tables: the slot's number cut to 32 bits"),
+    (
+        Slip::SlotWraps,
+        "tables: twelve times the slot's number cut to 64 bits",
+    ),
+    (Slip::SlotInReply, "tables: 14 to 16 with the slot's number"),
+    (
+        Slip::TailSlot,
+        "tables: bytes left over at the end taken for a slot",
+    ),
+    (
+        Slip::TailCleared,
+        "tables: bytes left over at the end cleared by an opening",
+    ),
+    (
+        Slip::OpeningResets,
+        "tables: a slot emptied where its opening is refused 16",
+    ),
+    (
+        Slip::RoundResets,
+        "tables: a slot emptied where its round is refused",
+    ),
+    (
+        Slip::NextOwner,
+        "tables: an opening writes the owner into the next slot too",
+    ),
+    (
+        Slip::NextSession,
+        "tables: a round writes the next slot too",
+    ),
+    (
+        Slip::OwnersFirst,
+        "tables: a round played in the first unfinished session of the slot's owner",
+    ),
+    (Slip::OwnerForgotten, "tables: a round leaves owner 0"),
+    (
+        Slip::OwnerKept,
+        "tables: the owner kept where another takes over",
+    ),
+    (
+        Slip::ShownKept,
+        "tables: the shown set kept where a slot is taken over",
+    ),
+    (
+        Slip::NoSlotCounted,
+        "tables: bytes that are no slot counted",
+    ),
+    (
+        Slip::NoSlotTaken,
+        "tables: bytes that are no slot taken by an opening",
+    ),
+    (
+        Slip::NoSlotFifteen,
+        "tables: an opening at bytes that are no slot refused 15",
+    ),
+    (
+        Slip::NoSlotFirst,
+        "tables: an opening at bytes that are no slot refused 8 before 7",
+    ),
+    (
+        Slip::NoSlotLast,
+        "tables: an opening at bytes that are no slot refused 8 after 16",
+    ),
+    (
+        Slip::NoSlotNine,
+        "tables: a round at bytes that are no slot refused 9",
+    ),
+    (
+        Slip::HeldAlone,
+        "tables: a slot is empty where it is not held, whatever else stands in it",
+    ),
+    (
+        Slip::HeldTwo,
+        "tables: a slot is held where byte 1 is 2 and more, too",
     ),
 ];
 

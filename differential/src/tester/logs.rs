@@ -1,43 +1,11 @@
 //! Logs: the record of a round, and two logs compared, of the version under test and of the plain version.
 
-use super::{guarded, Tester, GUARD};
+use super::lent::Lent;
+use super::{Tester, GUARD};
 use crate::calls::{asked_of, Memory, PLACE};
 use crate::report::{answer, hex};
 
-/// What is left of a log that was lent, its guard bytes with it.
-struct Lent {
-    front: usize,
-    bytes: Vec<u8>,
-}
-
-impl Lent {
-    fn new(log: &[u8], front: usize) -> Lent {
-        Lent {
-            front,
-            bytes: guarded(log, front),
-        }
-    }
-
-    fn log(&mut self) -> &mut [u8] {
-        let end = self.bytes.len() - GUARD;
-        &mut self.bytes[self.front..end]
-    }
-
-    fn is_kept(&self, log: &[u8]) -> bool {
-        self.bytes == guarded(log, self.front)
-    }
-}
-
 impl Tester<'_> {
-    /// A disagreement about logs.
-    pub fn found_in_logs(&mut self, title: &str, lines: &[String]) {
-        self.counts.disagreements += 1;
-        if self.counts.first_disagreement == 0 {
-            self.counts.first_disagreement = self.counts.cases().max(1);
-        }
-        self.shared.tell(title, lines);
-    }
-
     /// The record of a round that showed a set, replied so and left this session: its bytes, none where there is no record; or
     /// nothing where the versions disagree.
     pub fn log_record(&mut self, p: u16, reply: u32, session: [u8; 10]) -> Option<Vec<u8>> {
@@ -55,7 +23,7 @@ impl Tester<'_> {
                 answer("plain ", bytes, &wanted),
                 format!("session kept: {}", held == lent),
             ];
-            self.found_in_logs("log record, tested against plain version", &lines);
+            self.found_in("log record, tested against plain version", &lines);
             return None;
         }
         Some(memory.0[PLACE..PLACE + written as usize].to_vec())
@@ -69,8 +37,8 @@ impl Tester<'_> {
         let mut memory = before;
         let reply = self
             .subject
-            .compare_logs(one.log(), other.log(), &mut memory);
-        let kept = one.is_kept(first) && other.is_kept(second);
+            .compare_logs(one.bytes(), other.bytes(), &mut memory);
+        let kept = one.is(first) && other.is(second);
         let (wanted, wanted_memory) = self.plain_comparison(first, second, before);
         self.counts.logs.comparison(first, second);
         if kept && (reply, memory) == (wanted, wanted_memory) {
@@ -84,7 +52,7 @@ impl Tester<'_> {
             answer("plain ", wanted, &wanted_memory),
             format!("logs kept: {kept}"),
         ];
-        self.found_in_logs("two logs, tested against plain version", &lines);
+        self.found_in("two logs, tested against plain version", &lines);
         false
     }
 

@@ -6,11 +6,12 @@ mod levels;
 pub(crate) mod order;
 mod rules;
 mod search;
+pub mod tables;
 
 pub use check::{check, Accepted};
 pub(crate) use rules::Access;
 
-use crate::calls::{Call, Memory, Version};
+use crate::calls::{Call, Memory, Operation, Version};
 use crate::plain::interface::{call_round, encode, refusal_reply};
 use crate::plain::policy::Refusal;
 use crate::plain::session::{is_service, open, sound, Ending, Phase, Session, Verdict};
@@ -97,5 +98,9 @@ impl Version for Tuned {
             Call::Round(p) => call_round(memory, || check(policy), |s| round(policy, s, p)),
         };
         answer.unwrap_or_else(refusal_reply)
+    }
+
+    fn operate(&mut self, operation: Operation, policy: &mut [u8], table: &mut [u8]) -> u32 {
+        tables::operate(operation, policy, table).unwrap_or_else(refusal_reply)
     }
 }

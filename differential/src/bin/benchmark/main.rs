@@ -7,6 +7,7 @@ mod items;
 mod levelled;
 mod program;
 mod searches;
+mod slots;
 mod solver;
 mod tables;
 mod timing;
@@ -53,6 +54,7 @@ fn processor() -> String {
 /// All items that have the word in their name, once.
 fn measured(inputs: &Inputs, word: &str) -> Result<Vec<Times>, String> {
     let mut items = items::items(inputs);
+    items.extend(slots::items(&inputs.short[0]));
     items.extend(searches::items(inputs));
     let mut times = Vec::new();
     for item in items.iter().filter(|item| item.name.contains(word)) {

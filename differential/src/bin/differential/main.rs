@@ -118,7 +118,7 @@ fn run_threads(shared: &Shared, options: &Options) -> Result<Counts, String> {
     })
 }
 
-/// Document 01's own examples and those of weights, of the version under test and of the others.
+/// Document 01's own examples and those of document 02, of the version under test and of the others.
 fn test_marked(options: &Options) -> Result<(), String> {
     let mut tested = tested(options);
     let mut versions: [(&str, &mut dyn Version); 4] = [

@@ -12,10 +12,10 @@ use std::sync::atomic::{AtomicUsize, Ordering};
 use std::sync::Mutex;
 use std::thread;
 
-/// Demand 3, soundness and the logs of lists alone are tried in one case of so many.
+/// Demand 3, soundness, and what lists say of their logs and tables, are tried alone in one case of so many.
 const ALONE: u64 = 6;
 
-/// The cases in which a slip is found out: by comparing answers, and by demand 3, soundness and the logs of lists alone.
+/// The cases in which a slip is found out: by comparing answers, and by demand 3, soundness and lists alone.
 #[derive(Clone, Copy, Default)]
 struct Found {
     compared: Option<u64>,
@@ -100,7 +100,7 @@ fn print_slips(options: &Options, controls: &[Found], results: &[Found]) -> bool
         options.seed
     );
     println!(
-        "by comparing answers ({} cases at most), and by demand 3, soundness and logs of lists alone ({})\n",
+        "by comparing answers ({} cases at most), and by demand 3, soundness and lists alone ({})\n",
         options.slip_cases,
         options.slip_cases / ALONE
     );
@@ -118,7 +118,7 @@ fn print_slips(options: &Options, controls: &[Found], results: &[Found]) -> bool
         .count();
     let alone = results.iter().filter(|found| found.alone.is_some()).count();
     println!(
-        "\n{} slips, {found} found out, {alone} of them by demand 3, soundness and logs of lists alone",
+        "\n{} slips, {found} found out, {alone} of them by demand 3, soundness and lists alone",
         SLIPS.len()
     );
     let clean = |found: &Found| found.compared.is_none() && found.alone.is_none();

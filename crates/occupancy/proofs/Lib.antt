@@ -1,0 +1,3 @@
+-- The laws of a list of slots, and the theorem.
+pub mod ListLaws
+pub mod TheoremsProof

@@ -1,0 +1,2 @@
+-- What the station's slots mean.
+pub mod Types

@@ -1,0 +1,2 @@
+-- What the program's types mean.
+pub mod Types

@@ -1,0 +1,88 @@
+#!/usr/bin/env python3
+"""Runs the program `station` many times, each time in a folder of its own, and compares all that it prints.
+
+    scripts/station_runs.py [PROGRAM]     default: target/bin/station, which `rt check station` makes
+
+The runs and what they have to print are station_sessions.py's. Some are given in pieces, split at every place; in some a line has to come
+before the next record is given; in some nothing can be printed, and the program has only to end. Exit statuses are not compared.
+"""
+import itertools
+import sys
+
+import station_sessions
+from processes import ended, give, next_output, started
+from stored import ROOT
+from ways import at_once, closed, closed_input, compared, folder_as_input, full, in_pieces, not_read
+
+BYTES = 5
+
+
+def records(run):
+    """The records of a run, an incomplete one at the end."""
+    return [run.input[at : at + BYTES] for at in range(0, len(run.input), BYTES)]
+
+
+def line_by_line(program, folder, run):
+    """A record is given only when the line of the one before is there."""
+    process = started(program, folder)
+    printed, missing = b"", run.printed.encode().splitlines(keepends=True)
+    for record in records(run):
+        give(process, record)
+        if len(record) == BYTES and record[0] in (station_sessions.OPEN, station_sessions.ROUND):
+            got = next_output(process, lambda some: some.endswith(b"\n"))
+            printed += got
+            if got != missing.pop(0):
+                return printed + b"in time; then " + (ended(process) or b"")
+    rest = ended(process)
+    return None if rest is None else printed + rest
+
+
+def split_runs(runs):
+    """In two pieces, split at each place."""
+    for name in ("the three rounds at slot 9", "a granted slot, taken by 2", "4 bytes 01010110 at the end", "13 at record 1"):
+        run = runs[name]
+        for at in range(1, len(run.input)):
+            yield f"{name}, split at {at}", run, in_pieces(run.input[:at], run.input[at:])
+
+
+def trickled_runs(runs):
+    """A byte at a time, and in pieces of each length up to 14."""
+    chosen = [name for name in runs if name.startswith(("the three", "random list 1", "ones that look", "4 bytes", "owner 7: a fifth"))]
+    for name in (*chosen, "17 rounds at three slots in turn", "request 272, slot 64", "2305 bytes"):
+        run = runs[name]
+        yield f"{name}, a byte at a time", run, in_pieces(*(bytes([byte]) for byte in run.input))
+    for name, size in itertools.product(("random list 0", "64 sessions", "every other operation between"), range(2, 15)):
+        run = runs[name]
+        pieces = (run.input[at : at + size] for at in range(0, len(run.input), size))
+        yield f"{name}, {size} bytes at a time", run, in_pieces(*pieces)
+
+
+def answered_runs(runs):
+    """Each line before the next record."""
+    chosen = [name for name in runs if name.startswith(("the three", "random list 2", "owner 0: ", "a fresh", "a denied", "policy.bin m", "4 bytes"))]
+    for name in (*chosen, "17 rounds at three slots in turn", "64 sessions", "every other operation between", "2305 bytes"):
+        yield f"{name}, line by line", runs[name], line_by_line
+
+
+def unprinted_runs(runs):
+    """Output that fails."""
+    ways = {"full": full, "closed": closed, "not read": not_read(True), "not read, no signal": not_read(False)}
+    for name, word in itertools.product(("the three rounds at slot 0", "13 at record 1", "64 sessions", "a slot opened 2000 times"), ways):
+        yield f"{name}, output {word}", runs[name], ways[word]
+
+
+def unread_runs(runs):
+    """Input that fails."""
+    for word, way in (("closed", closed_input), ("a folder", folder_as_input)):
+        yield f"no input, policy good, input {word}", runs["no input, policy good"], way
+
+
+def all_runs():
+    runs = {run.name: run for run in station_sessions.runs()}
+    for name, run in runs.items():
+        yield name, run, at_once
+    for some in (split_runs, trickled_runs, answered_runs, unprinted_runs, unread_runs):
+        yield from some(runs)
+
+
+sys.exit(compared(sys.argv[1] if len(sys.argv) > 1 else ROOT / "target/bin/station", all_runs()))
