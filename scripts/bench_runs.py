@@ -6,13 +6,12 @@
 The runs and what they have to print are bench_sessions.py's. Some are given in pieces, split at every place; in some a line has to come
 before the next record is given; in some nothing can be printed, and the program has only to end. Exit statuses are not compared.
 """
-import itertools
 import sys
 
 import bench_sessions
 from processes import ended, ended_by_itself, give, next_output, started
 from stored import ROOT
-from ways import at_once, closed, closed_input, compared, folder_as_input, full, in_pieces, not_read
+from ways import compared, in_all_ways, in_pieces, split, unprinted, unread
 
 
 def line_by_line(program, folder, run):
@@ -42,12 +41,8 @@ def left_open(program, folder, run):
 
 
 def split_runs(runs):
-    """In two pieces, split at each place."""
     odd = "odd byte ff after closing", "odd byte ff after a refused request"
-    for name in ("(a) the three rounds", "17 if not 17", "(j) policy B", "ties", "weights: 2 and 3 weigh 3", *odd):
-        run = runs[name]
-        for at in range(1, len(run.input)):
-            yield f"{name}, split at {at}", run, in_pieces(run.input[:at], run.input[at:])
+    return split(runs, "(a) the three rounds", "17 if not 17", "(j) policy B", "ties", "weights: 2 and 3 weigh 3", *odd)
 
 
 def trickled_runs(runs):
@@ -69,27 +64,16 @@ def answered_runs(runs):
 
 
 def unprinted_runs(runs):
-    """Output that fails."""
-    ways = {"full": full, "closed": closed, "not read": not_read(True), "not read, no signal": not_read(False)}
-    names = "(a) the three rounds", "17 if not 17", "request 15 alone", "twenty records after deny", "3000 records after deny"
-    for name, word in itertools.product(names, ways):
-        yield f"{name}, output {word}", runs[name], ways[word]
+    return unprinted(runs, "(a) the three rounds", "17 if not 17", "request 15 alone", "twenty records after deny", "3000 records after deny")
 
 
 def unread_runs(runs):
     """Input that fails, and input that is left once the output has ended."""
-    for word, way in (("closed", closed_input), ("a folder", folder_as_input)):
-        yield f"no input, policy good, input {word}", runs["no input, policy good"], way
+    yield from unread(runs, "no input, policy good")
     for name in ("17 if not 17", "2305 bytes", "request 15 alone", "request 272, three records after it"):
         yield f"{name}, input left open", runs[name], left_open
 
 
-def all_runs():
-    runs = {run.name: run for run in bench_sessions.runs()}
-    for name, run in runs.items():
-        yield name, run, at_once
-    for some in (split_runs, trickled_runs, answered_runs, unprinted_runs, unread_runs):
-        yield from some(runs)
-
-
-sys.exit(compared(sys.argv[1] if len(sys.argv) > 1 else ROOT / "target/bin/bench", all_runs()))
+kinds = split_runs, trickled_runs, answered_runs, unprinted_runs, unread_runs
+program = sys.argv[1] if len(sys.argv) > 1 else ROOT / "target/bin/bench"
+sys.exit(compared(program, in_all_ways(bench_sessions.runs(), *kinds)))

@@ -202,6 +202,20 @@ def unreadable(path):
     path.chmod(0)
 
 
+def counting_as_empty():
+    """What policy.bin may be where it counts as the empty policy."""
+    return {
+        "0 bytes": b"",
+        "missing": None,
+        "a directory": directory,
+        "a link to nothing": link_to("nothing"),
+        "a link to itself": link_to("policy.bin"),
+        "a link to a directory": link_to("."),
+        "unreadable": unreadable,
+        "a file whose reading fails": link_to("/proc/self/mem"),
+    }
+
+
 def files():
     """How long policy.bin may be, and what counts as empty."""
     full = [ALWAYS_16] * 127 + [access(40, [3]), disclosure(3), OWN_17]
@@ -215,17 +229,7 @@ def files():
         yield by_hand(f"{length} bytes", long, (16, 0), "refused 1 at 128")
         yield by_hand(f"{length} bytes, record 0 bad", bytes([9]) + long[1:], (16, 0), "refused 1 at 128")
         yield by_hand(f"{length} bytes, request 15", long, (15, 0), "refused 1 at 128")
-    nothing = {
-        "0 bytes": b"",
-        "missing": None,
-        "a directory": directory,
-        "a link to nothing": link_to("nothing"),
-        "a link to itself": link_to("policy.bin"),
-        "a link to a directory": link_to("."),
-        "unreadable": unreadable,
-        "a file whose reading fails": link_to("/proc/self/mem"),
-    }
-    for name, policy in nothing.items():
+    for name, policy in counting_as_empty().items():
         yield by_hand(f"policy.bin {name}", policy, (16, 0, 0xFFFF), "round 1 got 0000 deny", "refused 9")
         yield by_hand(f"policy.bin {name}, request 63", policy, (63, 0), "refused 7")
     in_pieces = piped(written(POLICY_A)[:20], written(POLICY_A)[20:])

@@ -12,7 +12,7 @@ import sys
 import station_sessions
 from processes import ended, give, next_output, started
 from stored import ROOT
-from ways import at_once, closed, closed_input, compared, folder_as_input, full, in_pieces, not_read
+from ways import compared, in_all_ways, in_pieces, split, unprinted, unread
 
 BYTES = 5
 
@@ -38,11 +38,7 @@ def line_by_line(program, folder, run):
 
 
 def split_runs(runs):
-    """In two pieces, split at each place."""
-    for name in ("the three rounds at slot 9", "a granted slot, taken by 2", "4 bytes 01010110 at the end", "13 at record 1"):
-        run = runs[name]
-        for at in range(1, len(run.input)):
-            yield f"{name}, split at {at}", run, in_pieces(run.input[:at], run.input[at:])
+    return split(runs, "the three rounds at slot 9", "a granted slot, taken by 2", "4 bytes 01010110 at the end", "13 at record 1")
 
 
 def trickled_runs(runs):
@@ -65,24 +61,13 @@ def answered_runs(runs):
 
 
 def unprinted_runs(runs):
-    """Output that fails."""
-    ways = {"full": full, "closed": closed, "not read": not_read(True), "not read, no signal": not_read(False)}
-    for name, word in itertools.product(("the three rounds at slot 0", "13 at record 1", "64 sessions", "a slot opened 2000 times"), ways):
-        yield f"{name}, output {word}", runs[name], ways[word]
+    return unprinted(runs, "the three rounds at slot 0", "13 at record 1", "64 sessions", "a slot opened 2000 times")
 
 
 def unread_runs(runs):
-    """Input that fails."""
-    for word, way in (("closed", closed_input), ("a folder", folder_as_input)):
-        yield f"no input, policy good, input {word}", runs["no input, policy good"], way
+    return unread(runs, "no input, policy good")
 
 
-def all_runs():
-    runs = {run.name: run for run in station_sessions.runs()}
-    for name, run in runs.items():
-        yield name, run, at_once
-    for some in (split_runs, trickled_runs, answered_runs, unprinted_runs, unread_runs):
-        yield from some(runs)
-
-
-sys.exit(compared(sys.argv[1] if len(sys.argv) > 1 else ROOT / "target/bin/station", all_runs()))
+kinds = split_runs, trickled_runs, answered_runs, unprinted_runs, unread_runs
+program = sys.argv[1] if len(sys.argv) > 1 else ROOT / "target/bin/station"
+sys.exit(compared(program, in_all_ways(station_sessions.runs(), *kinds)))

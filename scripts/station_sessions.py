@@ -8,8 +8,8 @@ are worked out by tables.py.
 import random
 
 from bench_sessions import (
-    ALWAYS_16, BROKEN, OWN_17, POLICY_B, ROUNDS_A, SHOWN_A, Run, access, directory, disclosure, link_to, piped, some_policy, some_rounds,
-    unreadable, written,
+    ALWAYS_16, BROKEN, OWN_17, POLICY_B, ROUNDS_A, SHOWN_A, Run, access, counting_as_empty, disclosure, link_to, piped, some_policy,
+    some_rounds, written,
 )
 from rounds import POLICY_A, weight, whole
 from tables import open_at, round_at
@@ -170,16 +170,7 @@ def policies_refused():
 
 def files():
     """What policy.bin may be."""
-    nothing = {
-        "0 bytes": b"",
-        "missing": None,
-        "a directory": directory,
-        "a link to nothing": link_to("nothing"),
-        "a link to itself": link_to("policy.bin"),
-        "unreadable": unreadable,
-        "a file whose reading fails": link_to("/proc/self/mem"),
-    }
-    for name, policy in nothing.items():
+    for name, policy in counting_as_empty().items():
         pairs = opened(2), played(2, (0, 0), "round 1 got 0000 deny", "refused 9"), played(3, (0,), "refused 8"), opened(2, 2)
         yield by_hand(f"policy.bin {name}", policy, *pairs)
     in_pieces = piped(written(POLICY_A)[:20], written(POLICY_A)[20:])

@@ -2,6 +2,7 @@
 
 A way gets the program, a folder with the policy, and the run; it gives what is printed, None if the program does not end.
 """
+import itertools
 import os
 import pathlib
 import tempfile
@@ -61,6 +62,36 @@ def only_ends(process, run):
     """What the run has to print, if the program ends."""
     give(process, run.input)
     return None if ended(process) is None else run.printed.encode()
+
+
+def split(runs, *names):
+    """In two pieces, split at each place."""
+    for name in names:
+        run = runs[name]
+        for at in range(1, len(run.input)):
+            yield f"{name}, split at {at}", run, in_pieces(run.input[:at], run.input[at:])
+
+
+def unprinted(runs, *names):
+    """Output that fails."""
+    ways = {"full": full, "closed": closed, "not read": not_read(True), "not read, no signal": not_read(False)}
+    for name, word in itertools.product(names, ways):
+        yield f"{name}, output {word}", runs[name], ways[word]
+
+
+def unread(runs, name):
+    """Input that fails."""
+    for word, way in (("closed", closed_input), ("a folder", folder_as_input)):
+        yield f"{name}, input {word}", runs[name], way
+
+
+def in_all_ways(all_runs, *kinds):
+    """Each run at once, and then those of each kind."""
+    runs = {run.name: run for run in all_runs}
+    for name, run in runs.items():
+        yield name, run, at_once
+    for some in kinds:
+        yield from some(runs)
 
 
 def passes(name, run, got):
