@@ -6,9 +6,9 @@
  * returns, never traps, and reads and writes nothing else. A policy is never written. No function allocates, keeps a pointer
  * or has a state of its own.
  *
- * For a watchdog: a round tries at most 65,535 sets of credentials, and no other function tries any. The deepest stack
- * below the caller was measured as 17,776 bytes in gate_round, 17,904 in gate_round_at and 8,080 for the model; the test
- * and the disclosable set take less, and the others were not measured (docs/PERFORMANCE.md).
+ * For a watchdog: a round or a preview tries at most 65,535 sets of credentials, and no other function tries any. The deepest
+ * stack below the caller was measured as 17,776 bytes in gate_round, 18,064 in gate_round_at, 18,027 in gate_preview_at, and
+ * 8,080 for the model; the test and the disclosable set take less, and the others were not measured (docs/PERFORMANCE.md).
  *
  * The caller owes what C cannot show: pointers that are not null (also where a length is 0), aligned for their type, to
  * memory that is there and has been written before; no overlap of what one call writes with anything else that it is
@@ -53,17 +53,17 @@ enum { GATE_FRESH = 0, GATE_WAITING = 1, GATE_GRANTED = 2, GATE_DENIED = 3 };
 
 /* A reply is a number. Bytes that are not named here are 0.
  *
- *   0                   nothing is refused, and there is no more to say; never of a round
+ *   0                   nothing is refused, and there is no more to say; never of a round or a preview
  *   byte 0 is not 0     refused with that number, 1 to 16; with 1 to 6, 12 and 13, the policy's, byte 1 is the
  *                       number of its record, counted from 0, or with 6 the number of all its records
- *   byte 0 is 0         a round, not refused: byte 1 is 1 for grant, 2 for deny, 3 for a question; the set asked for is
- *                       GATE_ASKED of the session that the round leaves
+ *   byte 0 is 0         a round or a preview, not refused: byte 1 is 1 for grant, 2 for deny, 3 for a question; the set
+ *                       asked for is GATE_ASKED of the session that the round leaves, or the preview gives
  *                       two logs that part: byte 1 is 4
  *
  * Every function but gate_log_record gives a reply; that one gives a number of bytes. */
 #define GATE_REFUSAL(reply) ((uint32_t)(reply) & 0xff)
 #define GATE_RECORD(reply) ((uint32_t)(reply) >> 8 & 0xff) /* of a refusal of the policy */
-#define GATE_ENDING(reply) ((uint32_t)(reply) >> 8 & 0xff) /* of a round or a comparison that is not refused */
+#define GATE_ENDING(reply) ((uint32_t)(reply) >> 8 & 0xff) /* of a round, preview or comparison not refused */
 
 enum { GATE_GRANT = 1, GATE_DENY = 2, GATE_ASK = 3, GATE_PART = 4 };
 
@@ -103,7 +103,7 @@ typedef struct {
 } gate_slot;
 
 /* A table has bytes / 12 slots, numbered from 0; bytes left over at its end belong to none. Only the first 64 can be named: bytes
- * from 768 on are neither read nor written. A call writes at most the twelve bytes of its slot, and none where it is refused.
+ * from 768 on are neither read nor written. A call writes at most the twelve bytes of its slot there, and none where it is refused.
  *
  * Opening at a slot for an owner: 0, and the slot holds the owner and a fresh session for the request. The slot has to be empty,
  * or its session closed, whoever owned it. Or the first refusal that applies, and the table as it was: 7 where the request is not
@@ -117,6 +117,17 @@ uint32_t gate_open_at(gate_slot *slots, size_t bytes, size_t slot, uint8_t owner
  * closed. */
 uint32_t gate_round_at(
     const uint8_t *policy, size_t length, gate_slot *slots, size_t bytes, size_t slot, uint16_t shown);
+
+/* A preview of that round (document 02, R-6), with nothing played: the reply is that of gate_round_at for the same policy, table,
+ * slot and shown set, refusals included, and neither the policy nor the table is written. *preview is always written; like all
+ * memory that is lent it has to have been written before (gate_slot preview = {0}), and it must not overlap the policy or the
+ * table, so it is no slot of the table. Where a session is given it is the slot as the round would leave it: the owner, 1, and the
+ * next session, or, where the round would be refused, be it for the policy, the slot's own. No session is given where the slot is
+ * empty, where there is no slot of that number, or it is above 63, and where the twelve bytes are no slot: *preview is then an
+ * empty slot. So preview->held is 1 exactly where a session is given, and else 0, whatever the reply is. */
+uint32_t gate_preview_at(
+    const uint8_t *policy, size_t length, const gate_slot *slots, size_t bytes, size_t slot, uint16_t shown,
+    gate_slot *preview);
 
 /* A log (document 02, R-1) is records of eight bytes, one for each round that was not refused, and nothing else:
  *

@@ -1,17 +1,21 @@
 #!/usr/bin/env python3
-"""The cases of the program `slot_cases` and the answers to them, from document 02 (R-5, tables of slots) and not from our code.
+"""The cases of the program `slot_cases` and the answers to them, from document 02 (R-5, tables of slots, and R-6, previews) and not from our
+code.
 
     scripts/slot_cases.py            write crates/slot_cases/stdin and crates/slot_cases/stdout
     scripts/slot_cases.py --check    say whether these two files are what the script makes
 
 stdin, for each case, with numbers of several bytes little-endian:
     how long the start of the line, the policy and the table are, of two bytes each
-    the operation (1 an opening, 2 a round; one byte), the slot (four), the owner (one), and the request or the shown set (two)
+    the operation (1 an opening, 2 a round, 3 a preview of a round; one byte), the slot (four), the owner (one; only an opening looks at it),
+    and the request or the shown set (two)
     the start of the line (the name of the case, a colon and a blank), the policy, the table
-stdout: the line of each case: the start, the answer, a blank, and the bytes of the table afterwards as hexadecimal digits.
+stdout: the line of each case: the start, the answer, a blank, and the bytes of the table afterwards as hexadecimal digits; of a preview then
+a blank and its twelve bytes in the same way, the slot as the round would leave it, or zeros where no session is given.
 
-Answers are written by hand, but for those of the random cases; the script stops unless tables.py gives the same, and unless only the
-slot that is named changes, and that only where nothing is refused.
+Answers and what previews give are written by hand, but for those of the random cases; the script stops unless tables.py gives the same, and
+unless only the slot that is named changes, and that only where nothing is refused and never by a preview. A round at the same table has to
+say what the preview says and to leave what it gives.
 """
 import collections
 import itertools
@@ -22,11 +26,11 @@ import sys
 from bench_sessions import ALWAYS_16, OWN_17, written
 from rounds import EMPTY, POLICY_A, Policy, Session, credentials, weight, whole
 from stored import stored
-from tables import PHASES, Held, fresh, open_at, read_table, round_at, slot_bytes, table_bytes
+from tables import PHASES, Held, fresh, open_at, preview_at, preview_bytes, read_slot, read_table, round_at, slot_bytes, table_bytes
 
-# table: bytes; slot, owner and word: what the operation names, the word being the request or the shown set.
-Case = collections.namedtuple("Case", "name policy table operation slot owner word said")
-OPEN, ROUND = 1, 2
+# table: bytes; slot, owner and word: what the operation names, the word being the request or the shown set; preview: what one gives, as bytes.
+Case = collections.namedtuple("Case", "name policy table operation slot owner word said preview", defaults=[b""])
+OPEN, ROUND, PREVIEW = 1, 2, 3
 OWNER, OTHER = 7, 9
 A = whole(POLICY_A)
 NO_SLOT = b"\2" * 12
@@ -40,6 +44,7 @@ FRESH = fresh(16)
 WAITING = session(16, 0, 0, 1, "waiting", 4)
 GRANTED = session(16, 4, 0, 1, "closed granted")
 DENIED = session(16, 5, 0, 1, "closed denied")
+THIRD = session(16, 0, 4, 2, "waiting", 3)
 UNSOUND = {
     "fresh with count 1": session(16, 0, 0, 1, "fresh"),
     "fresh with 0 shown": session(16, 1, 0, 0, "fresh"),
@@ -100,6 +105,11 @@ def opens(name, said, some, slot, owner=OWNER, request=16):
 
 def plays(name, said, some, slot, shown=0, policy=A):
     return Case(f"round: {name}", policy, some, ROUND, slot, 0, shown, said)
+
+
+def shows(name, said, preview, some, slot, shown=0, policy=A):
+    """A preview, which gives a slot; None where no session is given. The owner is not looked at."""
+    return Case(f"preview: {name}", policy, some, PREVIEW, slot, 0xEE, shown, said, slot_bytes(preview))
 
 
 def held_at(places, owner=OWNER, one=FRESH):
@@ -304,32 +314,37 @@ def turned_back():
     yield plays("twelve zeros but for held", "refused 7", table(3, held_at([1], 0, fresh(0))), 1)
 
 
+# What a round finds, what is shown, what it says, and what it leaves.
 ENDINGS = (
-    ("fresh, asked", FRESH, 0, "ask"),
-    ("fresh, 15 shown", FRESH, 0x8000, "ask"),
-    ("fresh, 0 shown", FRESH, 1, "ask"),
-    ("fresh, granted", FRESH, 4, "grant"),
-    ("fresh, denied", FRESH, 5, "deny"),
-    ("fresh, all shown", FRESH, 0xFFFF, "deny"),
-    ("waiting, asked", WAITING, 0, "ask"),
-    ("waiting, granted", WAITING, 4, "grant"),
-    ("waiting, 3 shown", WAITING, 8, "ask"),
-    ("waiting, 2 and 3 shown", WAITING, 12, "deny"),
-    ("the third round", session(16, 0, 4, 2, "waiting", 3), 3, "grant"),
-    ("the third round, denied", session(16, 0, 4, 2, "waiting", 3), 1, "deny"),
-    ("request 17", fresh(17), 0xFFFF, "deny"),
-    ("the 17th round", session(16, 0xFFF0, 13, 16, "waiting", 2), 2, "deny"),
+    ("fresh, asked", FRESH, 0, "ask", WAITING),
+    ("fresh, 15 shown", FRESH, 0x8000, "ask", session(16, 0x8000, 0, 1, "waiting", 4)),
+    ("fresh, 0 shown", FRESH, 1, "ask", session(16, 1, 0, 1, "waiting", 2)),
+    ("fresh, granted", FRESH, 4, "grant", GRANTED),
+    ("fresh, denied", FRESH, 5, "deny", DENIED),
+    ("fresh, all shown", FRESH, 0xFFFF, "deny", session(16, 0xFFFF, 0, 1, "closed denied")),
+    ("waiting, asked", WAITING, 0, "ask", THIRD),
+    ("waiting, granted", WAITING, 4, "grant", session(16, 4, 0, 2, "closed granted")),
+    ("waiting, 3 shown", WAITING, 8, "ask", session(16, 8, 4, 2, "waiting", 3)),
+    ("waiting, 2 and 3 shown", WAITING, 12, "deny", session(16, 12, 0, 2, "closed denied")),
+    ("the third round", THIRD, 3, "grant", session(16, 3, 4, 3, "closed granted")),
+    ("the third round, denied", THIRD, 1, "deny", session(16, 1, 6, 3, "closed denied")),
+    ("request 17", fresh(17), 0xFFFF, "deny", session(17, 0xFFFF, 0, 1, "closed denied")),
+    ("the 17th round", session(16, 0xFFF0, 13, 16, "waiting", 2), 2, "deny", session(16, 0xFFF2, 13, 17, "closed denied")),
 )
+OTHERS = [Held(1, FRESH), Held(2, WAITING), None, Held(OWNER, GRANTED), NO_SLOT, Held(0, DENIED), Held(OWNER, WAITING), b"\0\2" + bytes(10)]
+
+
+def among(slot, place):
+    """A table with this slot, other slots of every kind around it, and bytes left over."""
+    return table_bytes(OTHERS[:place] + [slot] + OTHERS[place:]) + b"\xee\xee"
 
 
 def endings():
     """Each ending, at the first slot, between and at the last, other slots of every kind around it."""
-    others = [Held(1, FRESH), Held(2, WAITING), None, Held(OWNER, GRANTED), NO_SLOT, Held(0, DENIED), Held(OWNER, WAITING), b"\0\2" + bytes(10)]
-    for (word, one, shown, said), place in itertools.product(ENDINGS, (0, 4, 8)):
-        around = others[:place] + [Held(OWNER, one)] + others[place:]
-        yield plays(f"{word}, slot {place}", said, table_bytes(around) + b"\xee\xee", place, shown)
+    for (word, one, shown, said, _), place in itertools.product(ENDINGS, (0, 4, 8)):
+        yield plays(f"{word}, slot {place}", said, among(Held(OWNER, one), place), place, shown)
     for owner in (0, 1, 128, 255):
-        for (word, one, shown, said) in ENDINGS[:4]:
+        for (word, one, shown, said, _) in ENDINGS[:4]:
             yield plays(f"{word}, of owner {owner}", said, table(2, held_at([1], owner, one)), 1, shown)
     full = table(64, held_at(range(64)))
     for place in (0, 31, 63):
@@ -342,7 +357,143 @@ def endings():
     yield plays("2 weighs 3", "ask", table(2, held_at([1])), 1, 0, heavy)
 
 
-# ---- both
+# ---- previews
+
+
+def places_previewed():
+    """At each place: of empty tables, of one slot that holds a session, and of tables that hold one at every slot."""
+    for slots, place in itertools.product(LENGTHS, PLACES):
+        yield shows(f"slot {place} of {slots}", "refused 14" if outside(slots, place) else "refused 8", None, table(slots), place)
+    kinds = ("fresh", FRESH, "ask", WAITING), ("waiting", WAITING, "ask", THIRD), ("granted", GRANTED, "refused 9", GRANTED)
+    for place, (word, one, said, left) in itertools.product((0, 1, 62, 63, 64, 65, 69), kinds):
+        named, some = place < 64, table(70, held_at([place], OTHER, one))
+        yield shows(f"slot {place} of 70, {word}", said if named else "refused 14", Held(OTHER, left) if named else None, some, place)
+    for place in (0, 1, 62, 63, 64, 65, 69):
+        yield shows(f"slot {place} of 70, no slot", "refused 14" if place > 63 else "refused 8", None, table(70, {place: NO_SLOT}), place)
+    for slots, place in itertools.product((1, 5, 64, 70), (0, 1, 4, 5, 63, 64, 69, 70, 128, 255, 256, 65536, 65599, 0x0100003F, 1 << 31, 0xFFFFFFFF)):
+        named, some = not outside(slots, place), table(slots, {each: Held(each + 1, FRESH) for each in range(slots)})
+        name = f"slot {place} of {slots}, all held"
+        yield shows(name, "ask" if named else "refused 14", Held(place + 1, WAITING) if named else None, some, place)
+
+
+def left_over_previewed():
+    """Bytes at the end that are no whole slot."""
+    start = slot_bytes(Held(OWNER, FRESH))
+    for count in (1, 2, 5, 10, 11):
+        for word, left in (("zeros", bytes(count)), ("any", b"\xa5" * count), ("a session's", start[:count])):
+            name = f"{count} bytes left over, {word}"
+            yield shows(name, "grant", Held(OWNER, GRANTED), table(1, held_at([0]), left), 0, 4)
+            yield shows(f"{name}, past the end", "refused 14", None, table(1, held_at([0]), left), 1)
+    for count in (1, 11):
+        yield shows(f"63 slots and {count} bytes", "refused 14", None, table(63, held_at([62]), start[:count]), 63)
+        yield shows(f"64 slots and {count} bytes", "ask", Held(OWNER, WAITING), table(64, held_at([63]), start[:count]), 63)
+        yield shows(f"64 slots and {count} bytes, past the end", "refused 14", None, table(64, held_at([63]), start[:count]), 64)
+        yield shows(f"{count} bytes", "refused 14", None, start[:count], 0)
+
+
+def turned_back_previewed():
+    """7, 8 and 9, each with the slot's own session; of an empty slot, and of bytes that are no slot, none."""
+    said = {"denied, count 0": "refused 8", "granted, count 18": "refused 8", "denied for 15": "refused 7"}
+    said |= dict.fromkeys(NO_SERVICE, "refused 7") | dict.fromkeys(UNSOUND, "refused 8")
+    sessions = [*NO_SERVICE.items(), *UNSOUND.items(), *CLOSED.items()]
+    for (word, one), owner, shown in itertools.product(sessions, (0, OWNER), (0, 0xFFFF)):
+        some = table(3, held_at([1], owner, one))
+        yield shows(f"{word}, of {owner}, {shown:04x} shown", said.get(word, "refused 9"), Held(owner, one), some, 1, shown)
+    for shown in (0, 4, 0xFFFF):
+        yield shows(f"empty, {shown:04x} shown", "refused 8", None, table(3, held_at((0, 2))), 1, shown)
+        yield shows(f"twelve zeros but for held, {shown:04x} shown", "refused 7", Held(0, fresh(0)), table(3, held_at([1], 0, fresh(0))), 1, shown)
+    for owner in (0, OWNER):
+        for word, some in no_slots(owner):
+            yield shows(f"no slot, of {owner}, {word}", "refused 8", None, table(3, {**held_at((0, 2)), 1: some}), 1, 4)
+
+
+# Every kind of slot.
+KINDS = {
+    "fresh": Held(1, FRESH),
+    "waiting": Held(2, WAITING),
+    "granted": Held(0, GRANTED),
+    "denied": Held(255, DENIED),
+    "unsound": Held(3, UNSOUND["waiting for nothing"]),
+    "request 15": Held(4, fresh(15)),
+    "twelve zeros but for held": Held(0, fresh(0)),
+    "empty": None,
+    "no slot": NO_SLOT,
+    "granted, held 2": bytes_with(slot_bytes(Held(5, GRANTED)), 1, 2),
+    "phase 4": bytes_with(slot_bytes(Held(6, FRESH)), 9, 4),
+}
+
+
+def own(slot):
+    """What a refused preview gives: the slot's own session, or none."""
+    return slot if isinstance(slot, Held) else None
+
+
+def policies_previewed():
+    """A refused policy first of all: with the slot's own session, or with none where it is empty, no slot or past the end."""
+    some = table_bytes(KINDS.values())
+    for said, policy in REFUSED.items():
+        for place, (word, slot) in enumerate(KINDS.items()):
+            yield shows(f"{said}, {word}", said, own(slot), some, place, 4, policy)
+        for place in (len(KINDS), 64, 0xFFFFFFFF):
+            yield shows(f"{said}, slot {place}", said, None, some, place, policy=policy)
+        yield shows(f"{said}, no slots", said, None, b"", 0, policy=policy)
+        for place in (63, 64, 69):
+            held = table(70, held_at((63, 64, 69), OTHER, WAITING))
+            yield shows(f"{said}, slot {place} of 70", said, Held(OTHER, WAITING) if place == 63 else None, held, place, policy=policy)
+    six, said = whole([OWN_17]), "refused 6 at 1"
+    for word, one in (*UNSOUND.items(), *NO_SERVICE.items(), *CLOSED.items()):
+        yield shows(f"{said}, {word}", said, Held(OWNER, one), table(2, held_at([1], OWNER, one)), 1, 0xFFFF, six)
+    for word, slot in no_slots(OWNER):
+        yield shows(f"{said}, no slot, {word}", said, None, table(2, {1: slot}), 1, 0xFFFF, six)
+    yield shows(f"{said}, empty", said, None, table(2), 1, 0xFFFF, six)
+    yield shows(f"{said}, past the end", said, None, table(2), 2, 0xFFFF, six)
+
+
+def endings_previewed():
+    """Each ending, where endings() has it."""
+    for (word, one, shown, said, left), place in itertools.product(ENDINGS, (0, 4, 8)):
+        yield shows(f"{word}, slot {place}", said, Held(OWNER, left), among(Held(OWNER, one), place), place, shown)
+    for owner, (word, one, shown, said, left) in itertools.product((0, 1, 128, 255), ENDINGS):
+        yield shows(f"{word}, of owner {owner}", said, Held(owner, left), table(2, held_at([1], owner, one)), 1, shown)
+    full = table(64, held_at(range(64)))
+    for place in (0, 31, 63):
+        yield shows(f"64 of one owner, slot {place}", "ask", Held(OWNER, WAITING), full, place)
+    one = Held(OWNER, session(16, 3, 0, 1, "closed granted"))
+    yield shows("one slot", "grant", one, table(1, held_at([0])), 0, 3)
+    always = Held(OWNER, session(16, 0, 0, 1, "closed granted"))
+    yield shows("16 always", "grant", always, table(2, held_at([1])), 1, 0, whole([ALWAYS_16]))
+    denied = Held(OWNER, session(16, 0xFFFF, 0, 1, "closed denied"))
+    yield shows("no policy", "deny", denied, table(2, held_at([1])), 1, 0xFFFF, whole([]))
+    heavy = Held(OWNER, session(16, 0, 0, 1, "waiting", 3))
+    yield shows("2 weighs 3", "ask", heavy, table(2, held_at([1])), 1, 0, whole([*POLICY_A, weight(2, 3)]))
+
+
+# What a first round says of each set of 0 to 3, and asks for.
+FIRST = [
+    ("ask", 4), ("ask", 2), ("ask", 1), ("grant", 0), ("grant", 0), ("deny", 0), ("grant", 0), ("deny", 0),
+    ("ask", 3), ("ask", 2), ("ask", 1), ("grant", 0), ("deny", 0), ("deny", 0), ("deny", 0), ("deny", 0),
+]
+# The same of a second one, in which 2 is asked for; of a third one in which 0 and 1 are, and of each set of 0 to 2.
+SECOND = [("ask", 3), *FIRST[1:]]
+LAST = [("deny", 0), ("deny", 0), ("deny", 0), ("grant", 0), ("grant", 0), ("deny", 0), ("grant", 0), ("deny", 0)]
+PHASE_OF = {"ask": "waiting", "grant": "closed granted", "deny": "closed denied"}
+
+
+def shown_sets():
+    """Each set that is shown, alone and with credentials that no rule has."""
+    for more in (0, 0xFFF0):
+        for shown, (said, question) in enumerate(FIRST):
+            left = session(16, shown | more, 0, 1, PHASE_OF[said], question)
+            yield shows(f"fresh, {shown | more:04x} shown", said, Held(OWNER, left), table(1, held_at([0])), 0, shown | more)
+        for shown, (said, question) in enumerate(SECOND):
+            left = session(16, shown | more, 4 & ~shown, 2, PHASE_OF[said], question)
+            yield shows(f"waiting, {shown | more:04x} shown", said, Held(OWNER, left), table(1, held_at([0], OWNER, WAITING)), 0, shown | more)
+        for shown, (said, question) in enumerate(LAST):
+            left = session(16, shown | more, 4 | 3 & ~shown, 3, PHASE_OF[said], question)
+            yield shows(f"the third, {shown | more:04x} shown", said, Held(OWNER, left), table(1, held_at([0], OWNER, THIRD)), 0, shown | more)
+
+
+# ---- at random
 
 
 def some_session(source):
@@ -362,54 +513,125 @@ def some_slot(source, owners):
     return Held(source.choice(owners), good if source.random() < 0.8 else some_session(source))
 
 
-def at_random():
-    """500 cases from a fixed seed, each answer at least five times."""
-    source, came = random.Random(16), collections.Counter()
-    for place in range(500):
-        owners = source.sample((0, 1, OWNER, 255), source.choice((1, 2)))
-        slots = source.choice((1, 5, 6, 8, 9, 12))
-        some = table_bytes([some_slot(source, owners) for _ in range(slots)]) + source.randbytes(source.choice((0, 0, 5)))
-        slot, owner = source.choice((*range(slots), *range(slots), slots, 64)), source.choice(owners)
-        if source.random() < 0.5:
-            case = opens(f"random case {place}", None, some, slot, owner, source.choice((16, 17, 62, 62, 62, 63)))
-        else:
-            policy = A if source.random() < 0.8 else source.choice([*REFUSED.values()])
-            case = plays(f"random case {place}", None, some, slot, source.choice((0, 3, 4, 5, source.getrandbits(4))), policy)
-        case = case._replace(said=answered(case)[0])
-        came[" ".join(case.said.split()[:2])] += 1
-        yield case
-    wanted = {"opened", "grant", "deny", "ask", *(f"refused {number}" for number in (7, 8, 9, 14, 15, 16))}
-    if any(came[said] < 5 for said in wanted):
+def some_place(source):
+    """A table, the number of a slot, mostly of one there, and an owner."""
+    owners = source.sample((0, 1, OWNER, 255), source.choice((1, 2)))
+    slots = source.choice((1, 5, 6, 8, 9, 12))
+    some = table_bytes([some_slot(source, owners) for _ in range(slots)]) + source.randbytes(source.choice((0, 0, 5)))
+    return some, source.choice((*range(slots), *range(slots), slots, 64)), source.choice(owners)
+
+
+def some_play(source):
+    """What a round shows, and the policy."""
+    policy = A if source.random() < 0.8 else source.choice([*REFUSED.values()])
+    return source.choice((0, 3, 4, 5, source.getrandbits(4))), policy
+
+
+def by_definition(case):
+    """A case as the definitions answer it."""
+    said, _, preview = answered(case)
+    return case._replace(said=said, preview=preview)
+
+
+def often(words, wanted):
+    """Stops where one that is wanted comes less than five times."""
+    came = collections.Counter(words)
+    if any(came[word] < 5 for word in wanted):
         sys.exit(f"the random cases come to {dict(came)}")
 
 
+def short(said):
+    """An answer without the record's number."""
+    return " ".join(said.split()[:2])
+
+
+def at_random():
+    """500 openings and rounds from a fixed seed, each answer at least five times."""
+    source, made = random.Random(16), []
+    for place in range(500):
+        some, slot, owner = some_place(source)
+        if source.random() < 0.5:
+            case = opens(f"random case {place}", None, some, slot, owner, source.choice((16, 17, 62, 62, 62, 63)))
+        else:
+            case = plays(f"random case {place}", None, some, slot, *some_play(source))
+        made.append(by_definition(case))
+    often((short(case.said) for case in made), ["opened", "grant", "deny", "ask", *(f"refused {number}" for number in (7, 8, 9, 14, 15, 16))])
+    return made
+
+
+def previews_at_random():
+    """300 previews from a fixed seed, each answer at least five times, and a refused policy with a session and without."""
+    source, made = random.Random(6), []
+    for place in range(300):
+        some, slot, owner = some_place(source)
+        case = shows(f"random case {place}", None, None, some, slot, *some_play(source))
+        made.append(by_definition(case._replace(owner=owner)))
+    often((short(case.said) for case in made), ["grant", "deny", "ask", *(f"refused {number}" for number in (7, 8, 9, 14))])
+    often((any(case.preview) for case in made if " at " in case.said), [True, False])
+    return made
+
+
+# ---- all
+
+
 def answered(case):
-    """What an operation says, and the table's bytes after it."""
-    slots = read_table(case.table)
+    """What an operation says, the table's bytes after it, and the twelve bytes of a preview."""
+    slots, preview = read_table(case.table), b""
     if case.operation == OPEN:
         said, slots = open_at(slots, case.slot, case.owner, case.word)
-    else:
+    elif case.operation == ROUND:
         said, slots = round_at(case.policy, slots, case.slot, case.word)
+    else:
+        said, one = preview_at(case.policy, slots, case.slot, case.word)
+        preview = preview_bytes(slots, case.slot, one)
     after = table_bytes(slots)
-    return said.split()[0] if said.startswith("ask") else said, after + case.table[len(after) :]
+    return said.split()[0] if said.startswith("ask") else said, after + case.table[len(after) :], preview
 
 
-def cases():
+def chosen():
     openings = requests, places_opened, left_over, occupied, counted, counted_kinds, unreadable, pairs_opened
-    for some in (*openings, policies_played, places_played, turned_back, endings, at_random):
+    for some in (*openings, policies_played, places_played, turned_back, endings):
         yield from some()
 
 
-def line(case):
-    """The line of a case; stops where the definitions say otherwise, or where something else changes."""
-    said, after = answered(case)
-    if said != case.said:
-        sys.exit(f"{case.name}: {case.said} by hand, {said} by the definitions")
+def previews():
+    for some in (places_previewed, left_over_previewed, turned_back_previewed, policies_previewed, endings_previewed, shown_sets):
+        yield from some()
+
+
+def cases():
+    for some in (chosen, at_random, previews, previews_at_random):
+        yield from some()
+
+
+def followed(case):
+    """What a round says at a preview's table, and the slot that it leaves; zeros where this is none that holds a session."""
+    said, after, _ = answered(case._replace(operation=ROUND))
+    slot = after[12 * case.slot : 12 * case.slot + 12]
+    named = case.slot < 64 and len(slot) == 12
+    return said, slot if named and isinstance(read_slot(slot), Held) else bytes(12)
+
+
+def is_left_right(case, said, after):
+    """Whether only the slot that is named changes, and that exactly where nothing is refused; and nothing by a preview."""
     first = 12 * case.slot
     before, behind = case.table[:first] == after[:first], case.table[first + 12 :] == after[first + 12 :]
-    if not (before and behind) or (said.startswith("refused")) != (after == case.table):
+    changes = case.operation != PREVIEW and not said.startswith("refused")
+    return before and behind and changes == (after != case.table)
+
+
+def line(case):
+    """The line of a case; stops where the definitions say otherwise, where something else changes, or where the round of a preview differs."""
+    said, after, preview = answered(case)
+    if (said, preview) != (case.said, case.preview):
+        sys.exit(f"{case.name}: {case.said} {case.preview.hex()} by hand, {said} {preview.hex()} by the definitions")
+    if not is_left_right(case, said, after):
         sys.exit(f"{case.name}: the table is not as it should be")
-    return f"{case.name}: {said} {after.hex()}\n"
+    if case.operation != PREVIEW:
+        return f"{case.name}: {said} {after.hex()}\n"
+    if (said, preview) != followed(case):
+        sys.exit(f"{case.name}: the round says or leaves something else")
+    return f"{case.name}: {said} {after.hex()} {preview.hex()}\n"
 
 
 def given(case):

@@ -1,4 +1,4 @@
-"""Document 02's tables of slots (R-5), from its definitions and not from our code. What the paper calls a seat is a slot here.
+"""Document 02's tables of slots (R-5, R-6), from its definitions and not from our code. What the paper calls a seat is a slot here.
 
 A slot is None where it is empty, or else its owner and session, or else the twelve bytes themselves where they stand for no slot; a table
 is a list of slots. As bytes, an empty slot is twelve zeros, and another has the owner, a byte 1 and the ten bytes of the session.
@@ -107,3 +107,17 @@ def round_at(policy, slots, place, shown):
         return f"refused {turned_back}", slots
     said, session = accepted_round(policy.records, session, credentials(shown))
     return said, with_slot(slots, place, Held(owner, session))
+
+
+def preview_at(policy, slots, place, shown):
+    """What a preview says, and the session that it gives or None: "those of the same round on a copy of the list, refusals included"."""
+    said, copy = round_at(policy, list(slots), place, shown)
+    # "where the seat is empty or one that 14 refuses, no session is given"; nor is there one in bytes that are no slot.
+    if is_outside(slots, place) or not isinstance(slots[place], Held):
+        return said, None
+    return said, copy[place].session
+
+
+def preview_bytes(slots, place, session):
+    """The twelve bytes of a preview: the slot as the round would leave it, or zeros where no session is given."""
+    return slot_bytes(None if session is None else Held(slots[place].owner, session))

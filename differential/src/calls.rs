@@ -70,7 +70,24 @@ impl Operation {
     }
 }
 
-/// Where a session or a set stands in the memory: guard bytes are before and after it.
+/// A preview of a round at a slot, gate_preview_at; table and policy come beside it, and the memory for the slot that it gives.
+#[derive(Clone, Copy, PartialEq, Eq, Debug)]
+pub struct Preview {
+    pub slot: usize,
+    pub p: u16,
+}
+
+impl Preview {
+    /// The round that it is of.
+    pub fn round(self) -> Operation {
+        Operation::Round {
+            slot: self.slot,
+            p: self.p,
+        }
+    }
+}
+
+/// Where a session, a set or a slot stands in the memory: guard bytes are before and after it.
 pub const PLACE: usize = 8;
 
 /// The memory that a call may write, with guard bytes on both sides.
@@ -98,6 +115,15 @@ impl Memory {
 
     pub fn set_credentials(&mut self, set: u16) {
         self.0[PLACE..PLACE + 2].copy_from_slice(&set.to_le_bytes());
+    }
+
+    /// The twelve bytes of a slot.
+    pub fn slot(&self) -> [u8; 12] {
+        self.0[PLACE..PLACE + 12].try_into().expect("twelve bytes")
+    }
+
+    pub fn set_slot(&mut self, bytes: [u8; 12]) {
+        self.0[PLACE..PLACE + 12].copy_from_slice(&bytes);
     }
 
     /// The eight bytes of a log record.
@@ -130,6 +156,17 @@ pub trait Version {
     /// gate_open_at or gate_round_at; the plain version's where there is no other. An opening does not look at the policy.
     fn operate(&mut self, operation: Operation, policy: &mut [u8], table: &mut [u8]) -> u32 {
         Plain.operate(operation, policy, table)
+    }
+
+    /// gate_preview_at; the plain version's where there is no other. A right version writes nothing to the table either.
+    fn preview(
+        &mut self,
+        preview: Preview,
+        policy: &mut [u8],
+        table: &mut [u8],
+        memory: &mut Memory,
+    ) -> u32 {
+        Plain.preview(preview, policy, table, memory)
     }
 }
 

@@ -4,6 +4,7 @@ use crate::bench_counts::BenchCounts;
 use crate::calls::{ending_of, refusal_of, Call, DENY, GRANT};
 use crate::level_counts::LevelCounts;
 use crate::log_counts::LogCounts;
+use crate::preview_counts::PreviewCounts;
 use crate::question_counts::QuestionCounts;
 use crate::table_counts::TableCounts;
 use crate::weight_counts::WeightCounts;
@@ -89,6 +90,7 @@ pub struct Counts {
     pub levels: LevelCounts,
     pub logs: LogCounts,
     pub tables: TableCounts,
+    pub previews: PreviewCounts,
     pub bench: BenchCounts,
     pub weighted: WeightedCounts,
     pub disagreements: u64,
@@ -160,6 +162,7 @@ impl Counts {
         self.levels.add(&other.levels);
         self.logs.add(&other.logs);
         self.tables.add(&other.tables);
+        self.previews.add(&other.previews);
         self.bench.add(&other.bench);
         self.weighted.add(&other.weighted);
         self.disagreements += other.disagreements;
@@ -193,6 +196,7 @@ impl Counts {
         missing.extend(self.levels.missing());
         missing.extend(self.logs.missing());
         missing.extend(self.tables.missing());
+        missing.extend(self.previews.missing());
         missing.extend(self.bench.missing());
         missing.extend(self.weighted.missing());
         missing
@@ -228,6 +232,7 @@ impl Counts {
         println!("  by the tuned version: {}", self.tuned);
         self.logs.print();
         self.tables.print();
+        self.previews.print();
         self.bench.print();
         self.weighted.print();
     }

@@ -3,7 +3,7 @@
 
 mod tables;
 
-use crate::calls::{Call, Memory, Operation, Version};
+use crate::calls::{Call, Memory, Operation, Preview, Version};
 use crate::plain::interface::{decode, encode, ending_reply, refusal_reply};
 use crate::plain::policy::{Policy, Record, Refusal};
 use crate::plain::session::{Ending, Phase, Session, Verdict};
@@ -291,6 +291,18 @@ impl Version for Definition {
 
     fn operate(&mut self, operation: Operation, policy: &mut [u8], table: &mut [u8]) -> u32 {
         tables::operate(operation, policy, table)
+    }
+
+    fn preview(
+        &mut self,
+        at: Preview,
+        policy: &mut [u8],
+        table: &mut [u8],
+        memory: &mut Memory,
+    ) -> u32 {
+        let (reply, given) = tables::preview(at, policy, table);
+        memory.set_slot(given);
+        reply
     }
 }
 

@@ -1,6 +1,6 @@
 //! The gate itself, through its C interface. The only file with unsafe code.
 
-use crate::calls::{Call, Memory, Operation, Version, PLACE};
+use crate::calls::{Call, Memory, Operation, Preview, Version, PLACE};
 use crate::weighted::Search;
 
 #[link(name = "capi", kind = "static")]
@@ -27,6 +27,15 @@ extern "C" {
         slot: usize,
         shown: u16,
     ) -> u32;
+    fn gate_preview_at(
+        policy: *const u8,
+        length: usize,
+        slots: *const u8,
+        bytes: usize,
+        slot: usize,
+        shown: u16,
+        preview: *mut u8,
+    ) -> u32;
 }
 
 #[link(name = "probe", kind = "static")]
@@ -42,7 +51,7 @@ extern "C" {
     ) -> u64;
 }
 
-/// The gate as a version to be called. Sessions are lent at every alignment in turn.
+/// The gate as a version to be called. Sessions and previews are lent at every alignment in turn.
 #[derive(Default)]
 pub struct Gate {
     shift: usize,
@@ -96,6 +105,24 @@ impl Version for Gate {
     fn operate(&mut self, operation: Operation, policy: &mut [u8], table: &mut [u8]) -> u32 {
         operate(operation, policy, table)
     }
+
+    fn preview(
+        &mut self,
+        preview: Preview,
+        policy: &mut [u8],
+        table: &mut [u8],
+        memory: &mut Memory,
+    ) -> u32 {
+        self.shift = (self.shift + 1) % 64;
+        let (bytes, length) = (policy.as_mut_ptr().cast_const(), policy.len());
+        let (slots, size) = (table.as_mut_ptr().cast_const(), table.len());
+        let Preview { slot, p } = preview;
+        // SAFETY: the policy's pointer is valid for its length, the table's for its own; the preview's has 24 bytes after it, in
+        // memory of its own.
+        shifted(self.shift % 8, memory, |place| unsafe {
+            gate_preview_at(bytes, length, slots, size, slot, p, place)
+        })
+    }
 }
 
 /// An opening or a round at a slot: the reply, the table changed in place.
@@ -114,6 +141,17 @@ pub fn operate(operation: Operation, policy: &[u8], table: &mut [u8]) -> u32 {
             Operation::Round { slot, p } => gate_round_at(bytes, length, slots, size, slot, p),
         }
     }
+}
+
+/// A preview of a round at a slot: the reply, and the slot that it gives.
+pub fn preview(preview: Preview, policy: &[u8], table: &[u8]) -> (u32, [u8; 12]) {
+    let Preview { slot, p } = preview;
+    let mut given = [0; 12];
+    let (bytes, length) = (policy.as_ptr(), policy.len());
+    let (slots, size) = (table.as_ptr(), table.len());
+    // SAFETY: the policy's pointer is valid for its length, the table's for its own, and the preview's for twelve bytes of its own.
+    let reply = unsafe { gate_preview_at(bytes, length, slots, size, slot, p, given.as_mut_ptr()) };
+    (reply, given)
 }
 
 /// The calls that write a set or nothing.

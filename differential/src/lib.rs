@@ -20,6 +20,7 @@ pub mod options;
 pub mod plain;
 pub mod play;
 pub mod policies;
+pub mod preview_counts;
 pub mod question_counts;
 pub mod questions;
 pub mod random;

@@ -6,7 +6,7 @@ use crate::plain::table_bytes::{read_table, SLOT_BYTES};
 use crate::plain::tables::{unfinished, unfinished_of, Slot, MOST_SLOTS, MOST_UNFINISHED};
 
 /// Of each class so many must come up.
-const LEAST: u64 = 20;
+pub(crate) const LEAST: u64 = 20;
 
 const OPENINGS: [&str; 26] = [
     "opened in an empty slot",
@@ -37,7 +37,8 @@ const OPENINGS: [&str; 26] = [
     "16, one of four in slot 63",
 ];
 
-const ROUNDS: [&str; 16] = [
+/// Of rounds, and of previews as of the rounds that they show.
+pub(crate) const ROUNDS: [&str; 16] = [
     "ended in grant",
     "ended in deny",
     "ended in a question",
@@ -79,7 +80,7 @@ pub struct TableCounts {
     sessions: [u64; 3],
 }
 
-fn add_all(to: &mut [u64], from: impl IntoIterator<Item = u64>) {
+pub(crate) fn add_all(to: &mut [u64], from: impl IntoIterator<Item = u64>) {
     for (a, b) in to.iter_mut().zip(from) {
         *a += b;
     }
@@ -177,7 +178,7 @@ fn not_opened(slots: &[Slot], slot: usize, owner: u8, number: u32) -> [bool; 16]
 }
 
 /// The classes of a round.
-fn round(slots: &[Slot], table: &[u8], slot: usize, reply: u32) -> [bool; 16] {
+pub(crate) fn round(slots: &[Slot], table: &[u8], slot: usize, reply: u32) -> [bool; 16] {
     let (number, ending) = (refusal_of(reply), ending_of(reply));
     let accepted = number == 0;
     let of_policy = [1, 2, 3, 4, 5, 6, 12, 13].contains(&number);

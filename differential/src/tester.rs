@@ -2,7 +2,10 @@
 
 mod lent;
 mod logs;
+mod previews;
 mod tables;
+
+pub use previews::Previewed;
 
 use crate::calls::{refusal_of, Call, Memory, Version};
 use crate::counts::{Counts, Kind};

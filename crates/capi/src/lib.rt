@@ -5,7 +5,7 @@ ghost use Rattle.form.specs.PolicyTest.{policyRefusal};
 ghost use Rattle.disclosure.specs.Answers.{disclosableAnswer};
 ghost use Rattle.model.specs.Answers.{modelAnswer};
 ghost use Rattle.packing.specs.Exports.{checkReply, noSessionReply, openCall, roundCall, setAfter, setReply};
-ghost use Rattle.slot_packing.specs.Calls.{openAtCall, roundAtCall};
+ghost use Rattle.slot_packing.specs.Calls.{openAtCall, previewAtCall, roundAtCall};
 ghost use Rattle.logs.specs.Comparison.{compared};
 ghost use Rattle.session_logs.specs.Exports.{comparisonReply, placeAfter, recordCall};
 use disclosure::Disclosed;
@@ -19,7 +19,9 @@ use session::Move;
 use session::Opened;
 use session::Session;
 use session::answer::Answer;
+use table_wire::SLOT_BYTES;
 use table_wire::open_at;
+use table_wire::preview_at;
 use table_wire::round_at;
 use wire::packed::RECORD_BYTES;
 use wire::packed::Unpacked;
@@ -152,6 +154,22 @@ pub extern "C" fn gate_round_at(policy: &[u8], table: &mut [u8], slot: usize, sh
     ensures unchanged { λ _. ⌜ now (policy .exit) ≡ now (policy .entry) ⌝ }
 {
     round_at(policy, table, slot, shown)
+}
+
+// A preview of that round: its reply, and in the preview the slot after it, or an empty one where no session is given.
+#[no_mangle]
+pub extern "C" fn gate_preview_at(
+    policy: &[u8],
+    table: &[u8],
+    slot: usize,
+    shown: u16,
+    preview: &mut [u8; SLOT_BYTES],
+) -> u32
+    ensures answer { λ r. ⌜ r ≡ previewAtCall (now (policy .entry)) (now (table .entry)) slot shown .reply ⌝ }
+    ensures written { λ _. ⌜ now (preview .exit) ≡ previewAtCall (now (policy .entry)) (now (table .entry)) slot shown .leaves ⌝ }
+    ensures unchanged { λ _. ⌜ (now (policy .exit) ≡ now (policy .entry)) × (now (table .exit) ≡ now (table .entry)) ⌝ }
+{
+    preview_at(policy, table, slot, shown, preview)
 }
 
 // What is no session is refused 8, after the policy's test.

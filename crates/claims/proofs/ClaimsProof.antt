@@ -36,10 +36,13 @@ use Rattle.marked.proofs.WeightedCases.{weighted}
 use Rattle.former.proofs.TheoremsProof as former
 use Rattle.slots.proofs.TheoremsProof as slots
 use Rattle.operations.proofs.TheoremsProof as operations
+use Rattle.previews.proofs.TheoremsProof as previews
 use Rattle.session.proofs.TheoremsProof as session
 use Rattle.slot_steps.proofs.TheoremsProof as slot-steps
+use Rattle.slot_preview.proofs.TheoremsProof as slot-preview
 use Rattle.occupancy.proofs.TheoremsProof as occupancy
 use Rattle.table_calls.proofs.TheoremsProof as table-calls
+use Rattle.preview_calls.proofs.TheoremsProof as preview-calls
 use Rattle.replay.proofs.TheoremsProof as replay
 use Rattle.packing.proofs.TheoremsProof as packing
 use Rattle.slot_packing.proofs.TheoremsProof as slot-packing
@@ -124,6 +127,9 @@ claims = record {
   slot-types = slot-steps.theorems;
   tables = occupancy.theorems;
   table-calls = table-calls.theorems;
+  previews = previews.theorems;
+  preview-types = slot-preview.theorems;
+  preview-calls = preview-calls.theorems;
   packed-tables = slot-packing.theorems;
   station = station-lines.theorems;
 }

@@ -34,18 +34,21 @@
 --   RoundAtForm list, and OpeningNumbers, RoundAtNumbers, which say the same without the lists; Reply, OpeningAtMeets, RoundAtMeets
 -- operations: Operation, named, Answered, operate, Step, stepsOf, Fitting, AllEmpty, AtMostFour, SoundSlot; roundsAt, turnsAt, movesAt, NotOpened, OnePolicy,
 --   OneSession, and what Examples names
+-- previews: Preview, sessionAt, previewSlot, PreviewMeets, RoundAfter; Act, Told, act, Acted, actsOf, slotsAfter, operationsIn, stepsIn, Between, and
+--   what Examples names
 -- table_calls: Call, leftBy, stepOf, operationOf, Calls, Kept
+-- preview_calls: Call, leftBy, Kept, Calls, leftAfter, withoutPreviews
 -- replay: Calls, turnOf, movesOf
 -- packing: Packable, packed, unpacked, tenBytes, Call, openCall, roundCall, callsFrom, checkReply, setReply, setAfter, replyFor, callOf, Told with
 --   its parts, askedIn, and what Examples names
--- slot_packing: packedSlot, unpackedSlot, packedTable, openAtCall, roundAtCall, tableCalls, PackableSlot, twelveAt, There, NoSlot, Reads, OthersKept,
---   beforeOthers, openReplyFor, answeredFor, callFor, FourInBytes
+-- slot_packing: packedSlot, unpackedSlot, packedTable, openAtCall, roundAtCall, previewAtCall, tableCalls, PackableSlot, twelveAt, There, NoSlot, Reads,
+--   OthersKept, beforeOthers, openReplyFor, answeredFor, callFor, FourInBytes, Previewed
 -- transcript: ascii, Says, Hexadecimal, Decimal; Event, events, inputRecords; printed, output, recordsOutput, refusedLine, roundLine, roundLines;
 --   Reader, begun, isEnded, byteStep, bytesRun, readStep, readsRun, toldBy, printedBy
 -- console: Calls, turnOf, inputOf, toldIn, readerAfter, readerOf, eventsOf, stepOf
 -- lines: textOf, Prints, Printing, callsIn, textIn, Printings
 -- station_table: emptyTable, countAt
--- station_lines: openingLine, roundAtLine; operationsIn, printedBy, stationOutput; recordStep, Does, Calls, inputOf, textIn
+-- station_lines: openingLine, roundAtLine, previewLine; actsIn, printedBy, stationOutput; recordStep, Does, Calls, inputOf, textIn
 -- logs: Entry, readEntry, writeEntry, entryAt, entriesOf, FitsEntry, SaidAt; HasEntry, Whole, SoundEntry, SoundLog, UnsoundLog; Agree, Agreeing,
 --   AgreeAt, DifferAt, EndsAt, PartAt, compared, Compares, and what Examples names
 -- session_logs: roundRecord, endingEntry, Recordable, RecordBytes, SameRound; logOf, LogSays, Played; Said, saidOf, endingsOf, Meets, BreaksBy,
@@ -54,10 +57,11 @@
 --   noticeIn
 -- recorder: Flagged, flagged, recordIn
 -- and the cases of the types among them, and the maps from the program's types (specs/Types of records, policy, disclosure, model, search, question,
--- session, slot_steps, occupancy, station_table, replay, entries, log and recorder; specs/Steps of console). What a word computes is no matter of belief where a theorem here says what it
--- gives: the operations on sets, the closure, the model, the disclosable set, the tests, the preferred question, the sets shown and declined, the
--- digits. That lent bytes are not written stands in the contract of each open function, demands 1 and 2 of each call in those of `open`, `round` and `round_at`,
--- demand 3 of a whole list in that of `replay`, and that an event's line says its text in that of `of_event`. Assumes nothing.
+-- session, slot_steps, slot_preview, occupancy, station_table, replay, entries, log and recorder; specs/Steps of console). What a word computes is no
+-- matter of belief where a theorem here says what it gives: the operations on sets, the closure, the model, the disclosable set, the tests, the
+-- preferred question, the sets shown and declined, the digits. That lent bytes are not written stands in the contract of each function that a host or a
+-- client calls, demands 1 and 2 of each call in those of `open`, `round`, `open_at`, `round_at` and `preview_at`, demand 3 of a whole list in that of
+-- `replay`, and that an event's line says its text in that of `of_event`. Assumes nothing.
 use mathlib.Core.Path.{_≡_}
 use mathlib.Core.List.{List}
 use Prim.Native.Nat.{_<_, _^_, ℕ}
@@ -102,10 +106,13 @@ use Rattle.marked.specs.Weighted.{Weighted}
 use Rattle.former.specs.Theorems as former
 use Rattle.slots.specs.Theorems as slots
 use Rattle.operations.specs.Theorems as operations
+use Rattle.previews.specs.Theorems as previews
 use Rattle.session.specs.Theorems as session
 use Rattle.slot_steps.specs.Theorems as slotSteps
+use Rattle.slot_preview.specs.Theorems as slotPreview
 use Rattle.occupancy.specs.Theorems as occupancy
 use Rattle.table_calls.specs.Theorems as tableCalls
+use Rattle.preview_calls.specs.Theorems as previewCalls
 use Rattle.replay.specs.Theorems as replay
 use Rattle.packing.specs.Theorems as packing
 use Rattle.slot_packing.specs.Theorems as slotPacking
@@ -178,7 +185,7 @@ pub record Claims : Type 1 where
   pub runs : run.Theorems
   -- demand 3's last sentence is not empty: a client that meets its premise only by what it shows first
   pub admittance : Admittance
-  -- demand 3 of the program's calls, and which lists of calls it is about; demands 1 and 2 of each call stand in the contracts of `open` and `round`
+  -- demand 3 of the program's calls, and which lists of calls it is about
   pub program : replay.Theorems
   -- "Every session that opening and rounds give is sound": of one round under any policy, accepted or not
   pub stays-sound : RoundsKeepSound
@@ -220,6 +227,12 @@ pub record Claims : Type 1 where
   pub tables : occupancy.Theorems
   -- four at most, sound sessions and demand 3 at a slot, of lists of calls of the program's functions
   pub table-calls : tableCalls.Theorems
+  -- document 02, R-6: what a preview gives, the round afterwards, and previews among openings and rounds
+  pub previews : previews.Theorems
+  -- what the program's previews mean is one-to-one
+  pub preview-types : slotPreview.Theorems
+  -- previews among calls of the program's functions
+  pub preview-calls : previewCalls.Theorems
   -- tables of slots in bytes: each slot's twelve bytes, what each call from C replies and leaves, and lists of calls
   pub packed-tables : slotPacking.Theorems
   -- what the station program prints, from the bytes of two files, and that the lines of its calls are this

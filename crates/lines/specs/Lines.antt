@@ -7,7 +7,7 @@ use Rattle.lines.specs.declared.line.Line.{Line}
 
 -- the room of a line, that of the longest
 abbrev pub lineBytes : ℕ
-lineBytes = 32
+lineBytes = 40
 
 -- the bytes that are to be printed
 abbrev pub textOf : Line → List ℕ

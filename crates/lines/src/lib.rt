@@ -1,5 +1,6 @@
 // The bench program's lines (document 01, "The bench program"): the line of an event, which is that of a round or of a refusal. The station program's
 // have a number in front.
+ghost use mathlib.Core.Path.{_≡_};
 ghost use mathlib.Core.List.{_++_};
 ghost use Prim.Native.Nat.{_+_, _≤_};
 ghost use lib.ListN.{length};
@@ -10,7 +11,7 @@ ghost use Rattle.transcript.specs.Numerals.{ascii, decimal};
 ghost use Rattle.transcript.specs.Lines.{gotText, line, refusedLine, roundLine, roundText};
 ghost use Rattle.transcript.specs.Output.{printed};
 ghost use Rattle.console.specs.Steps.{eventsOf};
-ghost use Rattle.lines.specs.Lines.{Prints, Room, textOf};
+ghost use Rattle.lines.specs.Lines.{Appends, Prints, Room, textOf};
 use console::event::Event;
 use line::Line;
 use session::Move;
@@ -103,9 +104,25 @@ pub fn after_number(number: u8, line: Line) -> Line
     requires { ⌜ Room line 4 ⌝ }
     ensures { λ r. ⌜ Prints r (decimal number ++ (ascii " " ++ textOf line)) ⌝ }
 {
+    let front = Line::empty().decimal(number).text(b" ");
+    joined(front, line)
+}
+
+// The word for a preview in front of a line.
+pub fn after_preview(line: Line) -> Line
+    requires { ⌜ Room line 8 ⌝ }
+    ensures { λ r. ⌜ Prints r (ascii "preview " ++ textOf line) ⌝ }
+{
+    joined(Line::empty().text(b"preview "), line)
+}
+
+// What a line says, behind another.
+fn joined(front: Line, line: Line) -> Line
+    requires { ⌜ Room line 0 × Room front (line .length) ⌝ }
+    ensures { λ r. ⌜ Appends front r (textOf line) × (length (textOf line) ≡ line .length) ⌝ }
+{
     let bytes = line.bytes;
     let length = line.length;
-    let front = Line::empty().decimal(number).text(b" ");
     front.text(&bytes[..length])
 }
 

@@ -5,8 +5,8 @@ ghost use lib.ListN.{length};
 ghost use Rattle.transcript.specs.Numerals.{decimal, digit, hexadecimal};
 ghost use Rattle.lines.specs.Lines.{Appends, Prints, Room};
 
-// The longest line: 255 round 255 got ffff ask ffff, and its end.
-pub const LINE_BYTES: usize = 32;
+// The longest line: 255 preview round 255 got ffff ask ffff, and its end.
+pub const LINE_BYTES: usize = 40;
 
 // The first `length` of the bytes.
 pub struct Line {

@@ -4,10 +4,16 @@ use crate::input::next;
 use crate::input::number;
 use crate::print;
 use libc::STDIN_FILENO;
+use table_wire::SLOT_BYTES;
 use table_wire::open_at;
+use table_wire::preview_at;
 use table_wire::round_at;
 
 const OPENING: u8 = 1;
+
+const PREVIEW: u8 = 3;
+
+const OTHER: u8 = 0xa5;
 
 // Reads a case and prints its line; false if there is none left, or no room for it.
 pub(crate) fn run(space: &mut [u8], table: &mut [u8]) -> bool {
@@ -36,16 +42,34 @@ fn line(start: usize, asked: Asked, named: &[u8], table: &mut [u8]) {
     if start <= named.len() {
         print::text(&named[0..start]);
         answer(asked, &named[start..], table);
-        print::table(table);
+        print::text(b"\n");
+    }
+}
+
+// A preview, or an opening or a round and the table after it.
+fn answer(asked: Asked, policy: &[u8], table: &mut [u8]) {
+    if asked.operation == PREVIEW {
+        preview(asked, policy, table);
+    } else {
+        operation(asked, policy, table);
+        print::bytes(table);
     }
 }
 
 // An opening, or else a round.
-fn answer(asked: Asked, policy: &[u8], table: &mut [u8]) {
+fn operation(asked: Asked, policy: &[u8], table: &mut [u8]) {
     let slot = asked.slot;
     if asked.operation == OPENING {
         print::opened(open_at(table, slot, asked.owner, asked.word));
     } else {
         print::round(round_at(policy, table, slot, asked.word));
     }
+}
+
+// The reply, the table, and the preview, in which other bytes stood before.
+fn preview(asked: Asked, policy: &[u8], table: &[u8]) {
+    let mut left = [OTHER; SLOT_BYTES];
+    print::round(preview_at(policy, table, asked.slot, asked.word, &mut left));
+    print::bytes(table);
+    print::bytes(&left);
 }

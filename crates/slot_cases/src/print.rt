@@ -13,7 +13,7 @@ pub(crate) fn opened(reply: u32) {
     }
 }
 
-// The reply to a round.
+// The reply to a round or a preview.
 pub(crate) fn round(reply: u32) {
     match reply {
         0x100 => text(b"grant"),
@@ -34,11 +34,10 @@ fn refused(reply: u32) {
     }
 }
 
-// The bytes of a table, and the end of the line.
-pub(crate) fn table(bytes: &[u8]) {
+// A blank, and the bytes of a table or a preview.
+pub(crate) fn bytes(shown: &[u8]) {
     text(b" ");
-    digits(bytes);
-    text(b"\n");
+    digits(shown);
 }
 
 // Two hexadecimal digits for each byte.

@@ -102,7 +102,7 @@ module _ (xs : List Slot) (rest : List ℕ) (few : length rest < 12) where
           let short : length (packedTable xs ++ rest) < 12 * k + 12 = simp (length-append, table-length) (omega arith) in
           rw (past-end (packedTable xs ++ rest) k short, List·getD-eq-default xs vacant e)
 
-  there : (i : ℕ) → inTable xs i ≡ true → i < length xs
+  pub there : (i : ℕ) → inTable xs i ≡ true → i < length xs
   there i e = ltb-true i (length xs) (and-true (ltb i (length xs)) (ltb i slotLimit) e .0)
 
   pub opening-at : (i o r : ℕ) → openAtCall (packedTable xs ++ rest) i o r

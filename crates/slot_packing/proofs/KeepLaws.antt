@@ -63,7 +63,7 @@ module _ (bytes : List ℕ) (i : ℕ) where
         go j (inl h) = before j h
         go j (inr h) = after j h
 
-  room : named bytes i ≡ true → 12 * i + 12 ≤ length bytes
+  pub room : named bytes i ≡ true → 12 * i + 12 ≤ length bytes
   room e = omega (arith, ltb-true i (slotsIn bytes) (and-true (ltb i (slotsIn bytes)) (ltb i slotLimit) e .0))
 
   -- ---- an opening

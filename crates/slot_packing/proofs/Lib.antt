@@ -5,5 +5,6 @@ pub mod CallLaws
 pub mod KeepLaws
 pub mod UnreadLaws
 pub mod ReadLaws
+pub mod PreviewLaws
 pub mod ListLaws
 pub mod TheoremsProof

@@ -89,7 +89,7 @@ module _ (bytes : List ℕ) (b : Bytes bytes) where
   unfolding slotIn
   slot-there k x e = stands-slot x (twelveAt bytes k) (at-bytes k) .1 e
 
-  nothing-there : (k : ℕ) → NoSlot (twelveAt bytes k) → slotIn bytes k ≡ none
+  pub nothing-there : (k : ℕ) → NoSlot (twelveAt bytes k) → slotIn bytes k ≡ none
   unfolding slotIn
   nothing-there k n = go (unpackedSlot (twelveAt bytes k)) refl
     where
@@ -100,10 +100,10 @@ module _ (bytes : List ℕ) (b : Bytes bytes) where
   -- ---- read as a list
 
   module _ (xs : List Slot) (reads : Reads bytes xs) where
-    as-many : slotsIn bytes ≡ length xs
+    pub as-many : slotsIn bytes ≡ length xs
     as-many = omega (arith, reads .as-many .0, reads .as-many .1)
 
-    read-as : (k : ℕ) → k < length xs → ReadAs (slotIn bytes k) (slotAt xs k)
+    pub read-as : (k : ℕ) → k < length xs → ReadAs (slotIn bytes k) (slotAt xs k)
     read-as k l = go (reads .each k l)
       where
         go : (packedSlot (slotAt xs k) ≡ twelveAt bytes k) ⊎ ((slotAt xs k ≡ vacant) × NoSlot (twelveAt bytes k)) → ReadAs (slotIn bytes k) (slotAt xs k)
@@ -126,7 +126,7 @@ module _ (bytes : List ℕ) (b : Bytes bytes) where
             let e : length xs ≤ k = omega arith in
             rw (past-end bytes k (omega (arith, reads .as-many .1)), List·getD-eq-default xs vacant e)
 
-    in-list : (i : ℕ) → inTable xs i ≡ true → (i < length xs) × (i < slotLimit)
+    pub in-list : (i : ℕ) → inTable xs i ≡ true → (i < length xs) × (i < slotLimit)
     in-list i e =
         let both = and-true (ltb i (length xs)) (ltb i slotLimit) e in (ltb-true i (length xs) (both .0), ltb-true i slotLimit (both .1))
 
@@ -176,7 +176,7 @@ module _ (bytes : List ℕ) (b : Bytes bytes) where
   -- ---- a call at what is no slot
 
   module _ (i : ℕ) (there : There bytes i) (n : NoSlot (twelveAt bytes i)) where
-    named-there : named bytes i ≡ true
+    pub named-there : named bytes i ≡ true
     named-there = both-true (lt-ltb i (slotsIn bytes) (omega (arith, there .0))) (lt-ltb i slotLimit (there .1))
 
     pub no-slot-opening : (o r : ℕ) → Service r → openAtCall bytes i o r ≡ record { reply = 8; leaves = bytes }

@@ -22,6 +22,7 @@ use Rattle.slot_packing.specs.Theorems.{PackableSlot, Theorems, callFor,
 use Rattle.slot_packing.proofs.CallLaws as calls
 use Rattle.slot_packing.proofs.KeepLaws as kept
 use Rattle.slot_packing.proofs.ListLaws as lists
+use Rattle.slot_packing.proofs.PreviewLaws as previews
 use Rattle.slot_packing.proofs.ReadLaws as read
 use Rattle.slot_packing.proofs.SlotLaws.{stands-slot, twelve}
 use Rattle.slot_packing.proofs.UnreadLaws as unread
@@ -75,6 +76,12 @@ theorems = record {
   round-others = λ policy bytes i p. kept.round-others bytes i policy p;
   opening-unread = unread.opening-unread;
   round-unread = unread.round-unread;
+  preview = λ policy xs rest few. previews.preview-at xs rest few policy;
+  preview-read = λ policy bytes b xs reads. previews.preview-read bytes b xs reads policy;
+  no-slot-preview = λ policy bytes b. previews.no-slot-preview bytes b policy;
+  preview-then-round = previews.then-round;
+  preview-then-slot = previews.then-slot;
+  preview-unread = λ policy bytes i p. previews.preview-unread policy i p bytes;
   calls = λ xs rest few. lists.calls rest (λ ys. same ys rest few) xs;
   four = λ n. lists.four n (λ ys. same ys (replicate (n % 12) 0) (lists.few n));
 }

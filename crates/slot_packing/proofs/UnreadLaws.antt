@@ -32,7 +32,7 @@ neither false = refl
 module _ (p q : List ℕ) (full : length p ≡ 768) where
   -- ---- what is read
 
-  named-same : (i : ℕ) → named (p ++ q) i ≡ named p i
+  pub named-same : (i : ℕ) → named (p ++ q) i ≡ named p i
   named-same i = go (decLe (suc i) slotLimit)
     where
       go : Dec (i < slotLimit) → named (p ++ q) i ≡ named p i
@@ -43,7 +43,7 @@ module _ (p q : List ℕ) (full : length p ≡ 768) where
       go (no n) = rw (le-ltb i slotLimit (omega arith)) (neither (ltb i (slotsIn (p ++ q))) ∙ sym (neither (ltb i (slotsIn p))))
 
   module _ (k : ℕ) (l : k < slotLimit) where
-    slot-same : slotIn (p ++ q) k ≡ slotIn p k
+    pub slot-same : slotIn (p ++ q) k ≡ slotIn p k
     unfolding slotIn
     slot-same =
         let a : 12 * k ≤ length p = omega arith in
@@ -57,7 +57,7 @@ module _ (p q : List ℕ) (full : length p ≡ 768) where
         let b : 12 * k + 12 ≤ length p = omega arith in
         rw (take-append-le (12 * k) p q a, drop-append-le (12 * k + 12) p q b) (simp append-assoc)
 
-  below : (i : ℕ) → named p i ≡ true → i < slotLimit
+  pub below : (i : ℕ) → named p i ≡ true → i < slotLimit
   below i e = ltb-true i slotLimit (and-true (ltb i (slotsIn p)) (ltb i slotLimit) e .1)
 
   -- ---- the calls

@@ -1,4 +1,4 @@
--- What gate_open_at and gate_round_at reply, and what they leave of the table that they are lent. Assumes nothing.
+-- What gate_open_at, gate_round_at and gate_preview_at reply, and what they leave in the memory that they are lent. Assumes nothing.
 use mathlib.Core.Bool.{Bool, _&&_, cond, false, true}
 use mathlib.Core.List.{List, [], _++_, _∷_}
 use mathlib.Core.Option.{Option, none, some}
@@ -12,10 +12,10 @@ use Rattle.rounds.specs.RoundTest.{requestTests}
 use Rattle.rounds.specs.Rounds.{Answer, ends, refused}
 use Rattle.rounds.specs.Sessions.{opened}
 use Rattle.slots.specs.RoundsAt.{SlotTurn, refusedBy, slotRound}
-use Rattle.slots.specs.Slots.{Slot, held, isFree, mostUnfinished, slotLimit, unfinishedOf}
+use Rattle.slots.specs.Slots.{Slot, held, isFree, mostUnfinished, slotLimit, unfinishedOf, vacant}
 use Rattle.packing.specs.Exports.{Call}
 use Rattle.packing.specs.Replies.{answerReply, done, refusalReply}
-use Rattle.slot_packing.specs.PackedSlots.{slotIn, slotsIn, withSlot}
+use Rattle.slot_packing.specs.PackedSlots.{packedSlot, slotIn, slotsIn, withSlot}
 
 -- slot i is neither "past the list's end" nor "above 63"
 abbrev pub named : List ℕ → ℕ → Bool
@@ -88,3 +88,26 @@ playedAt policy bytes i p (some x) = turnCall bytes i (slotRound policy x (showi
 -- "a round tests the policy, 14, then an empty seat as 8, then the session as before"
 unfoldable pub roundAtCall : List ℕ → List ℕ → ℕ → ℕ → Call
 roundAtCall policy bytes i p = cond (named bytes i) (playedAt policy bytes i p (slotIn bytes i)) (turnedAway policy bytes 14)
+
+-- ---- a preview
+
+-- refused with the number, after the policy's test; "no session is given", which is an empty slot
+abbrev pub refusedTurn : List ℕ → ℕ → SlotTurn
+refusedTurn policy n = record { answer = refusedBy policy n; slot = vacant }
+
+-- what is no slot is answered as an empty one is
+abbrev pub turnIn : List ℕ → ℕ → Option Slot → SlotTurn
+turnIn policy p none = refusedTurn policy 8
+turnIn policy p (some x) = slotRound policy x (showing p)
+
+-- "those of the same round on a copy of the list": the answer, and the slot as the round would leave it
+unfoldable pub turnAt : List ℕ → List ℕ → ℕ → ℕ → SlotTurn
+turnAt policy bytes i p = cond (named bytes i) (turnIn policy p (slotIn bytes i)) (refusedTurn policy 14)
+
+-- the reply, and the twelve bytes of the slot
+abbrev pub slotCall : SlotTurn → Call
+slotCall t = record { reply = answerReply (t .answer); leaves = packedSlot (t .slot) }
+
+-- what it leaves are the twelve bytes of the preview; "and the list itself is left"
+unfoldable pub previewAtCall : List ℕ → List ℕ → ℕ → ℕ → Call
+previewAtCall policy bytes i p = slotCall (turnAt policy bytes i p)

@@ -1,4 +1,4 @@
--- The theorems of tables for C: the twelve bytes of a slot, a call of gate_open_at or gate_round_at, and a list of calls. Assumes nothing.
+-- The theorems of tables for C: the twelve bytes of a slot, a call of gate_open_at, gate_round_at or gate_preview_at, and a list of calls. Assumes nothing.
 use mathlib.Core.Path.{_≡_}
 use mathlib.Core.Logic.{_↔_, _≢_, _⊎_}
 use mathlib.Core.List.{List, [], _++_, _∷_, map}
@@ -18,10 +18,11 @@ use Rattle.slots.specs.RoundsAt.{roundAt}
 use Rattle.slots.specs.Slots.{Slot, held, slotAt, vacant}
 use Rattle.operations.specs.Operations.{Answered, Operation, Step, opening, round, stepsOf}
 use Rattle.operations.specs.Theorems.{AtMostFour}
+use Rattle.previews.specs.Previews.{Preview, previewAt}
 use Rattle.packing.specs.Exports.{Call}
 use Rattle.packing.specs.Packed.{Packable, packed}
 use Rattle.packing.specs.Theorems.{replyFor}
-use Rattle.slot_packing.specs.Calls.{openAtCall, roundAtCall}
+use Rattle.slot_packing.specs.Calls.{openAtCall, previewAtCall, roundAtCall}
 use Rattle.slot_packing.specs.PackedSlots.{packedSlot, packedTable, unpackedSlot}
 use Rattle.slot_packing.specs.TableCalls.{tableCalls}
 
@@ -60,6 +61,17 @@ pub record OthersKept (before : List ℕ) (i : ℕ) (after : List ℕ) : Type 0 
 -- a call on the first 768 bytes, with the others put back
 abbrev pub beforeOthers : Call → List ℕ → Call
 beforeOthers c rest = record { reply = c .reply; leaves = c .leaves ++ rest }
+
+-- c says what the preview v of a round at slot i of a list gives
+pub record Previewed (xs : List Slot) (i : ℕ) (v : Preview) (c : Call) : Type 0 where
+  pub answer : c .reply ≡ replyFor (v .answer)
+  -- a session stands in the preview as in a slot, with the owner of the slot
+  pub session : (t : Session)
+      → (v .session ≡ some t) ↔ ((o : ℕ) × ((s : Session) × ((slotAt xs i ≡ held o s) × (c .leaves ≡ o ∷ 1 ∷ packed t))))
+  -- "no session is given"
+  pub nothing : (v .session ≡ none) ↔ (c .leaves ≡ replicate 12 0)
+  -- include/gate.h's `held` tells which of the two
+  pub held-byte : (getD (c .leaves) 1 0 ≡ 1) ↔ ((t : Session) × (v .session ≡ some t))
 
 -- what an operation on a list comes to as a call, with what is left over
 abbrev pub answeredFor : Answered → ℕ
@@ -128,6 +140,24 @@ pub record Theorems : Type 0 where
   pub opening-unread : (bytes : List ℕ) (i o r : ℕ) → openAtCall bytes i o r ≡ beforeOthers (openAtCall (take 768 bytes) i o r) (drop 768 bytes)
   pub round-unread : (policy bytes : List ℕ) (i p : ℕ)
       → roundAtCall policy bytes i p ≡ beforeOthers (roundAtCall policy (take 768 bytes) i p) (drop 768 bytes)
+  -- ---- a preview: reply and session are those of the list
+
+  -- "The preview's answer and session are those of the same round on a copy of the list, refusals included, and the list itself is left; where the seat is
+  -- empty or one that 14 refuses, no session is given."
+  pub preview : (policy : List ℕ) (xs : List Slot) (rest : List ℕ) → length rest < 12 → (i p : ℕ)
+      → Previewed xs i (previewAt policy xs i (showing p)) (previewAtCall policy (packedTable xs ++ rest) i p)
+  -- of any table
+  pub preview-read : (policy bytes : List ℕ) → Bytes bytes → (xs : List Slot) → Reads bytes xs → (i p : ℕ)
+      → Previewed xs i (previewAt policy xs i (showing p)) (previewAtCall policy bytes i p)
+  -- what is no slot is never handed on
+  pub no-slot-preview : (policy bytes : List ℕ) → Bytes bytes → (i p : ℕ) → There bytes i → NoSlot (twelveAt bytes i)
+      → previewAtCall policy bytes i p .leaves ≡ replicate 12 0
+  -- the call of gate_round_at that may follow: the same reply, and at a slot the twelve bytes that the preview showed
+  pub preview-then-round : (policy bytes : List ℕ) (i p : ℕ) → roundAtCall policy bytes i p .reply ≡ previewAtCall policy bytes i p .reply
+  pub preview-then-slot : (policy bytes : List ℕ) (i p : ℕ) → There bytes i → (x : Slot) → packedSlot x ≡ twelveAt bytes i
+      → twelveAt (roundAtCall policy bytes i p .leaves) i ≡ previewAtCall policy bytes i p .leaves
+  -- "Seats past the 64th are never read"
+  pub preview-unread : (policy bytes : List ℕ) (i p : ℕ) → previewAtCall policy bytes i p ≡ previewAtCall policy (take 768 bytes) i p
   -- ---- calls one after another on one table
 
   -- any list of them is the list of operations that R-5 speaks of

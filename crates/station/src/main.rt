@@ -1,4 +1,4 @@
-// The station program (document 02, R-5): 64 slots, and openings and rounds at them from standard input. It reads and writes; what it prints is worked
+// The station program (document 02, R-5 and R-6): 64 slots, and openings, rounds and previews at them from standard input. It reads and writes; what it prints is worked
 // out by `station_lines`.
 ghost use Rattle.lines.specs.Lines.{Room};
 use libc::STDIN_FILENO;

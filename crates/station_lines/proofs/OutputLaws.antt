@@ -12,16 +12,18 @@ use Rattle.rounds.specs.Moves.{showing}
 use Rattle.slots.specs.Openings.{openAt}
 use Rattle.slots.specs.RoundsAt.{roundAt}
 use Rattle.slots.specs.Slots as S
-use Rattle.operations.specs.Operations.{Operation, opens, plays}
+use Rattle.operations.specs.Operations.{opens, plays}
+use Rattle.previews.specs.Acts.{Act, does, previews}
+use Rattle.previews.specs.Previews.{previewAt}
 use Rattle.slot_steps.specs.declared.Slot.{Slot}
 use Rattle.occupancy.specs.Types.{tableOf}
-use Rattle.station_lines.specs.Output.{operationsIn, printedBy}
-use Rattle.station_lines.specs.Steps.{RecordStep, openingStep, recordStep, roundStep}
+use Rattle.station_lines.specs.Output.{actsIn, printedBy}
+use Rattle.station_lines.specs.Steps.{RecordStep, openingStep, previewStep, recordStep, roundStep}
 use Rattle.station_lines.specs.Theorems.{Calls, inputOf, textIn}
 use Rattle.station_lines.specs.declared.step.Step.{Step}
 
-pub incomplete-none : (policy bytes : List ℕ) → length bytes < 5 → operationsIn policy bytes ≡ []
-unfolding operationsIn
+pub incomplete-none : (policy bytes : List ℕ) → length bytes < 5 → actsIn policy bytes ≡ []
+unfolding actsIn
 incomplete-none policy [] l = refl
 incomplete-none policy (x ∷ []) l = refl
 incomplete-none policy (x ∷ i ∷ []) l = refl
@@ -30,36 +32,38 @@ incomplete-none policy (x ∷ i ∷ o ∷ low ∷ []) l = refl
 incomplete-none policy (x ∷ i ∷ o ∷ low ∷ high ∷ bytes) l = absurd (omega (arith, l))
 
 -- what a record does, and what is printed after it
-abbrev before : RecordStep → List Operation → List ℕ
-before s ops = s .prints ++ printedBy (s .table) ops
+abbrev before : RecordStep → List Act → List ℕ
+before s acts = s .prints ++ printedBy (s .table) acts
 
-by-operation : (policy : List ℕ) (xs : List S.Slot) (a b : Bool) (i o n : ℕ) (ops : List Operation)
-    → printedBy xs (cond a (opens i o n ∷ []) (cond b (plays policy i (showing n) ∷ []) []) ++ ops)
-    ≡ before (cond a (openingStep i (openAt xs i o n)) (cond b (roundStep i (showing n) (roundAt policy xs i (showing n))) (record { prints = []; table = xs }))) ops
+by-act : (policy : List ℕ) (xs : List S.Slot) (a b c : Bool) (i o n : ℕ) (acts : List Act)
+    → printedBy xs (cond a (does (opens i o n) ∷ []) (cond b (does (plays policy i (showing n)) ∷ []) (cond c (previews policy i (showing n) ∷ []) [])) ++ acts)
+    ≡ before (cond a (openingStep i (openAt xs i o n)) (cond b (roundStep i (showing n) (roundAt policy xs i (showing n)))
+    (cond c (previewStep i (showing n) (previewAt policy xs i (showing n)) xs) (record { prints = []; table = xs })))) acts
 unfolding printedBy flatMap run
-by-operation policy xs true b i o n ops = refl
-by-operation policy xs false true i o n ops = refl
-by-operation policy xs false false i o n ops = refl
+by-act policy xs true b c i o n acts = refl
+by-act policy xs false true c i o n acts = refl
+by-act policy xs false false true i o n acts = refl
+by-act policy xs false false false i o n acts = refl
 
 record-printed : (policy : List ℕ) (xs : List S.Slot) (bytes : List ℕ) → length bytes ≡ 5 → (more : List ℕ)
-    → printedBy xs (operationsIn policy (bytes ++ more)) ≡ before (recordStep policy xs bytes) (operationsIn policy more)
-unfolding operationsIn recordStep
+    → printedBy xs (actsIn policy (bytes ++ more)) ≡ before (recordStep policy xs bytes) (actsIn policy more)
+unfolding actsIn recordStep
 record-printed policy xs [] e more = absurd (omega (arith, e))
 record-printed policy xs (x ∷ []) e more = absurd (omega (arith, e))
 record-printed policy xs (x ∷ i ∷ []) e more = absurd (omega (arith, e))
 record-printed policy xs (x ∷ i ∷ o ∷ []) e more = absurd (omega (arith, e))
 record-printed policy xs (x ∷ i ∷ o ∷ low ∷ []) e more = absurd (omega (arith, e))
 record-printed policy xs (x ∷ i ∷ o ∷ low ∷ high ∷ []) e more =
-    by-operation policy xs (eqb x 1) (eqb x 2) i o (littleEndian (low ∷ high ∷ [])) (operationsIn policy more)
+    by-act policy xs (eqb x 1) (eqb x 2) (eqb x 3) i o (littleEndian (low ∷ high ∷ [])) (actsIn policy more)
 record-printed policy xs (x ∷ i ∷ o ∷ low ∷ high ∷ y ∷ bytes) e more = absurd (omega (arith, e))
 
 pub calls-printed : (policy : List ℕ) (xs : List Slot) (cs : List (Turn (List ℕ) Step)) → Calls policy xs cs → (rest : List ℕ) → length rest < 5
-    → textIn cs ≡ printedBy (tableOf xs) (operationsIn policy (inputOf cs ++ rest))
+    → textIn cs ≡ printedBy (tableOf xs) (actsIn policy (inputOf cs ++ rest))
 unfolding flatMap printedBy run
 calls-printed policy xs [] h rest l = ap (printedBy (tableOf xs)) (sym (incomplete-none policy rest l))
 calls-printed policy xs (c ∷ cs) (e, (d, h)) rest l =
     let s = recordStep policy (tableOf xs) (c .takes) in
-    let ops = operationsIn policy (inputOf cs ++ rest) in
-    ap₂ _++_ (d .prints .text) (calls-printed policy (c .gives .slots) cs h rest l ∙ ap (λ (ys : List S.Slot). printedBy ys ops) (d .table))
+    let acts = actsIn policy (inputOf cs ++ rest) in
+    ap₂ _++_ (d .prints .text) (calls-printed policy (c .gives .slots) cs h rest l ∙ ap (λ (ys : List S.Slot). printedBy ys acts) (d .table))
     ∙ sym (record-printed policy (tableOf xs) (c .takes) e (inputOf cs ++ rest))
-    ∙ ap (λ (bytes : List ℕ). printedBy (tableOf xs) (operationsIn policy bytes)) (sym (append-assoc (c .takes) (inputOf cs) rest))
+    ∙ ap (λ (bytes : List ℕ). printedBy (tableOf xs) (actsIn policy bytes)) (sym (append-assoc (c .takes) (inputOf cs) rest))

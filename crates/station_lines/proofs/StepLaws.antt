@@ -10,7 +10,8 @@ use Rattle.rounds.specs.Moves.{showing}
 use Rattle.slots.specs.Openings.{openAt}
 use Rattle.slots.specs.RoundsAt.{roundAt}
 use Rattle.slots.specs.Slots.{Slot}
-use Rattle.station_lines.specs.Steps.{openingStep, recordStep, roundStep}
+use Rattle.previews.specs.Previews.{previewAt}
+use Rattle.station_lines.specs.Steps.{openingStep, previewStep, recordStep, roundStep}
 
 -- the number of a record
 abbrev numberOf : List ℕ → ℕ
@@ -26,7 +27,12 @@ pub step-plays : (policy : List ℕ) (xs : List Slot) (bytes : List ℕ) → get
 unfolding recordStep
 step-plays policy xs bytes e = rw e refl
 
-pub step-passes : (policy : List ℕ) (xs : List Slot) (bytes : List ℕ) → getD bytes 0 0 ≢ 1 → getD bytes 0 0 ≢ 2
+pub step-previews : (policy : List ℕ) (xs : List Slot) (bytes : List ℕ) → getD bytes 0 0 ≡ 3
+    → recordStep policy xs bytes ≡ previewStep (getD bytes 1 0) (showing (numberOf bytes)) (previewAt policy xs (getD bytes 1 0) (showing (numberOf bytes))) xs
+unfolding recordStep
+step-previews policy xs bytes e = rw e refl
+
+pub step-passes : (policy : List ℕ) (xs : List Slot) (bytes : List ℕ) → getD bytes 0 0 ≢ 1 → getD bytes 0 0 ≢ 2 → getD bytes 0 0 ≢ 3
     → recordStep policy xs bytes ≡ record { prints = []; table = xs }
 unfolding recordStep
-step-passes policy xs bytes h k = rw (ne-eqb (getD bytes 0 0) 1 h, ne-eqb (getD bytes 0 0) 2 k) refl
+step-passes policy xs bytes h k l = rw (ne-eqb (getD bytes 0 0) 1 h, ne-eqb (getD bytes 0 0) 2 k, ne-eqb (getD bytes 0 0) 3 l) refl

@@ -1,10 +1,12 @@
--- The station program: the line of an opening, and that of a round. Assumes nothing.
+-- The station program: the line of an opening, that of a round, and that of a preview. Assumes nothing.
 use mathlib.Core.List.{List, _++_}
 use mathlib.Core.Option.{Option, none, some}
 use Prim.Native.Nat.{ℕ}
 use Rattle.rounds.specs.Moves.{Move}
 use Rattle.rounds.specs.Refusals.{Refusal}
 use Rattle.rounds.specs.Rounds.{Answer}
+use Rattle.rounds.specs.Sessions.{Session}
+use Rattle.previews.specs.Previews.{Preview}
 use Rattle.transcript.specs.Lines.{answerText, line, refusedText}
 use Rattle.transcript.specs.Numerals.{ascii, decimal}
 
@@ -24,3 +26,12 @@ openingLine i a = slotLine i (openingText a)
 -- at slot i, the bench program's line of a round, with the count after it
 unfoldable pub roundAtLine : ℕ → Move → Answer → ℕ → List ℕ
 roundAtLine i m a count = slotLine i (answerText count m a)
+
+-- the count of the session that a preview gives; a preview that gives none is of a refused round, whose line has no count
+abbrev pub countOf : Option Session → ℕ
+countOf none = 0
+countOf (some s) = s .count
+
+-- at slot i, the word, and what the round would print after the slot's number
+unfoldable pub previewLine : ℕ → Move → Preview → List ℕ
+previewLine i m v = slotLine i (ascii "preview " ++ answerText (countOf (v .session)) m (v .answer))

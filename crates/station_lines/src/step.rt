@@ -4,10 +4,12 @@ ghost use mathlib.Core.List.{[], _∷_};
 ghost use Rattle.encoding.specs.LittleEndian.{littleEndian};
 ghost use Rattle.slots.specs.Openings.{openAt};
 ghost use Rattle.slots.specs.RoundsAt.{roundAt};
+ghost use Rattle.previews.specs.Previews.{previewAt};
 ghost use Rattle.session.specs.Types.{moveOf};
 ghost use Rattle.occupancy.specs.Types.{tableOf};
-ghost use Rattle.station_lines.specs.Steps.{Does, openingStep, recordStep, roundStep};
+ghost use Rattle.station_lines.specs.Steps.{Does, openingStep, previewStep, recordStep, roundStep};
 use crate::of_opening;
+use crate::of_preview;
 use crate::of_round;
 use lines::line::Line;
 use session::Move;
@@ -15,6 +17,7 @@ use slot_steps::Slot;
 use station_table::SLOTS;
 use station_table::count_at;
 use station_table::open_in;
+use station_table::preview_in;
 use station_table::round_in;
 
 // An operation, a slot, an owner, and two bytes of a number.
@@ -39,6 +42,9 @@ pub fn record(slots: [Slot; SLOTS], policy: &[u8], bytes: [u8; RECORD_BYTES]) ->
     }
     if operation == 2 {
         return round(slots, policy, slot, Move { shows: number });
+    }
+    if operation == 3 {
+        return preview(slots, policy, slot, Move { shows: number });
     }
     Step {
         line: Line::empty(),
@@ -76,6 +82,17 @@ fn round(slots: [Slot; SLOTS], policy: &[u8], slot: u8, taken: Move) -> Step
     let count = count_at(slots, slot as usize);
     Step {
         line: of_round(slot, taken, answer, count),
+        slots,
+    }
+}
+
+// A preview of a round; the slots stay as they are.
+fn preview(slots: [Slot; SLOTS], policy: &[u8], slot: u8, taken: Move) -> Step
+    ensures { λ r. ⌜ Does r (previewStep slot (moveOf taken) (previewAt (now (policy .entry)) (tableOf slots) slot (moveOf taken)) (tableOf slots)) ⌝ }
+{
+    let preview = preview_in(slots, policy, slot as usize, taken);
+    Step {
+        line: of_preview(slot, taken, preview),
         slots,
     }
 }

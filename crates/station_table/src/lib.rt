@@ -3,11 +3,15 @@ ghost use mathlib.Core.Path.{_≡_};
 ghost use Rattle.slots.specs.Openings.{openAt};
 ghost use Rattle.slots.specs.RoundsAt.{roundAt};
 ghost use Rattle.operations.specs.AtSlot.{sessionIn};
+ghost use Rattle.previews.specs.Previews.{previewAt};
 ghost use Rattle.session.specs.Types.{moveOf};
 ghost use Rattle.slot_steps.specs.Types.{slotOf};
+ghost use Rattle.slot_preview.specs.Types.{previewOf};
 ghost use Rattle.occupancy.specs.Types.{tableOf};
 ghost use Rattle.station_table.specs.Types.{countAt, emptyTable, openingOf, roundOf};
+use preview::preview_at;
 use session::Move;
+use slot_preview::Preview;
 use slot_steps::Holding;
 use slot_steps::Slot;
 use slot_steps::answer::Answer;
@@ -82,4 +86,12 @@ pub fn round_in(slots: [Slot; SLOTS], policy: &[u8], slot: usize, taken: Move) -
         answer,
         slots: lent,
     }
+}
+
+// What a round of the session at a slot would answer, and the session after it; the slots are lent for it.
+pub fn preview_in(slots: [Slot; SLOTS], policy: &[u8], slot: usize, taken: Move) -> Preview
+    ensures gives { λ r. ⌜ previewOf r ≡ previewAt (now (policy .entry)) (tableOf slots) slot (moveOf taken) ⌝ }
+    ensures unchanged { λ _. ⌜ now (policy .exit) ≡ now (policy .entry) ⌝ }
+{
+    preview_at(&slots, policy, slot, taken)
 }

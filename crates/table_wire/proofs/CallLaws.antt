@@ -1,24 +1,30 @@
 -- The calls as the program makes them: past the table's end, at what is no slot, and at a slot. Assumes nothing.
 use mathlib.Core.Path.{_≡_, refl}
-use mathlib.Core.Bool.{Bool, _&&_, false, true}
+use mathlib.Core.Bool.{Bool, _&&_, cond, false, true}
 use mathlib.Core.List.{List}
 use mathlib.Core.Option.{Option, none, some}
-use Prim.Native.Nat.{_<_, _≤_, min, ℕ}
+use Prim.Native.Nat.{_*_, _+_, _<_, _≤_, min, ℕ}
 use lib.Dec.{ltb}
+use lib.ListN.{length}
 use native.Mathlib.Decide.{decLe}
 use native.Mathlib.Omega.{arith}
 use borrow.Author.Tests.{le-ltb, lt-ltb}
 use Rattle.validation.specs.Tests.{firstFailed, relabelled}
 use Rattle.validation.proofs.TestLaws.{both-true}
+use Rattle.rounds.specs.Endings.{Ending}
 use Rattle.rounds.specs.Moves.{showing}
 use Rattle.rounds.specs.RoundTest.{openingTests}
-use Rattle.rounds.specs.Rounds.{opening}
+use Rattle.rounds.specs.Rounds.{ends, opening}
 use Rattle.rounds.specs.Sessions.{isService}
-use Rattle.slots.specs.RoundsAt.{SlotTurn, refusedBy, slotRound}
+use Rattle.rounds.proofs.AnswerLaws.{clash}
+use Rattle.slots.specs.RoundsAt.{refusedBy, slotRound}
 use Rattle.slots.specs.Slots.{Slot, isFree, mostUnfinished, slotLimit}
 use Rattle.slot_steps.specs.Steps.{SlotOpening, openSlot, pastRefusal, takeSlot}
-use Rattle.slot_packing.specs.Calls.{named, openAtCall, openAtRefusal, openingReply, playedAt, roundAtCall, takenCall, turnCall, turnedAway, unfinishedIn}
+use Rattle.slot_packing.specs.Calls.{named, openAtCall, openAtRefusal, openingReply, refusedTurn, takenCall, turnAt, turnIn, unfinishedIn}
 use Rattle.slot_packing.specs.PackedSlots.{slotIn, slotsIn}
+use Rattle.slot_packing.proofs.CallLaws.{ReadAs}
+use Rattle.slot_packing.proofs.KeepLaws.{room}
+use Rattle.slot_packing.proofs.PreviewLaws as turns
 use Rattle.table_wire.specs.Types.{noSlotReply, orEmpty}
 
 module _ (bytes : List ℕ) (i : ℕ) where
@@ -68,18 +74,24 @@ module _ (bytes : List ℕ) (i : ℕ) where
           go true false d e f g = rw (named-true l, found, e, f)
           go false b d e f g = rw (named-true l, found, e)
 
-  -- ---- a round
+  -- ---- a round, and its preview
 
   module _ (policy : List ℕ) (p : ℕ) where
-    pub round-past : min (slotsIn bytes) 64 ≤ i → roundAtCall policy bytes i p ≡ turnedAway policy bytes 14
-    unfolding roundAtCall
-    round-past l = rw (named-false l)
+    pub turn-past : min (slotsIn bytes) 64 ≤ i → turnAt policy bytes i p ≡ refusedTurn policy 14
+    turn-past l = turns.turn-past policy bytes i p (named-false l)
 
-    pub round-slot : i < min (slotsIn bytes) 64 → (x : Slot) → x ≡ orEmpty (slotIn bytes i) → (t : SlotTurn) → t ≡ slotRound policy x (showing p)
-        → roundAtCall policy bytes i p ≡ turnCall bytes i t
-    unfolding roundAtCall slotRound refusedBy
-    round-slot l x e t is = rw (named-true l, is, e) (go (slotIn bytes i))
+    pub turn-slot : i < min (slotsIn bytes) 64 → (x : Slot) → x ≡ orEmpty (slotIn bytes i) → turnAt policy bytes i p ≡ slotRound policy x (showing p)
+    turn-slot l x e = turns.turn-named policy bytes i p x (named-true l) (rw e (go (slotIn bytes i)))
       where
-        go : (u : Option Slot) → playedAt policy bytes i p u ≡ turnCall bytes i (slotRound policy (orEmpty u) (showing p))
-        go none = refl
+        go : (u : Option Slot) → ReadAs u (orEmpty u)
+        go none = tt
         go (some y) = refl
+
+    -- one that is not refused is at a slot of the table
+    pub turn-room : (e : Ending) → turnAt policy bytes i p .answer ≡ ends e → 12 * i + 12 ≤ length bytes
+    unfolding turnAt refusedBy
+    turn-room e = go (named bytes i) refl
+      where
+        go : (b : Bool) → named bytes i ≡ b → cond b (turnIn policy p (slotIn bytes i)) (refusedTurn policy 14) .answer ≡ ends e → 12 * i + 12 ≤ length bytes
+        go true is a = room bytes i is
+        go false is a = clash (cc)

@@ -4,8 +4,8 @@ ghost use Prim.Native.Nat.{_*_, _+_, _/_, _<_, _≤_, min};
 ghost use lib.ListN.{length};
 ghost use Rattle.slot_packing.specs.Calls.{countIn, unfinishedIn};
 ghost use Rattle.table_wire.specs.Types.{foundOf};
+use crate::SLOT_BYTES;
 use crate::packed::Found;
-use crate::packed::SLOT_BYTES;
 use crate::packed::slot_at;
 use slot_steps::count::tally;
 

@@ -6,14 +6,13 @@ ghost use lib.ListN.{drop, length, take};
 ghost use Rattle.slot_packing.specs.PackedSlots.{allZero, heldIn, packedSlot, slotIn, unpackedSlot, withSlot};
 ghost use Rattle.slot_steps.specs.Types.{slotOf};
 ghost use Rattle.table_wire.specs.Types.{foundOf, orEmpty};
+use crate::SLOT_BYTES;
 use slot_steps::Holding;
 use slot_steps::Slot;
 use wire::packed::RECORD_BYTES;
 use wire::packed::Unpacked;
 use wire::packed::pack;
 use wire::packed::unpack;
-
-pub(crate) const SLOT_BYTES: usize = 12;
 
 const HELD: u8 = 1;
 
@@ -116,7 +115,7 @@ pub(crate) fn put(table: &mut [u8], k: usize, slot: Slot)
     write(table, SLOT_BYTES * k, &bytes);
 }
 
-fn pack_slot(slot: Slot) -> [u8; SLOT_BYTES]
+pub(crate) fn pack_slot(slot: Slot) -> [u8; SLOT_BYTES]
     ensures { λ r. ⌜ r ≡ packedSlot (slotOf slot) ⌝ }
 {
     let holding = slot.holding;

@@ -1,7 +1,8 @@
-//! Tables (document 02, R-5) read as they stand: each refusal by itself, and of those that apply the first in the paper's order.
+//! Tables (document 02, R-5 and R-6) read as they stand: each refusal by itself, and of those that apply the first in the paper's
+//! order.
 
 use super::{call_round, check};
-use crate::calls::{Memory, Operation};
+use crate::calls::{Memory, Operation, Preview};
 use crate::plain::interface::refusal_reply;
 use crate::plain::policy::Refusal;
 
@@ -109,4 +110,14 @@ pub(super) fn operate(operation: Operation, policy: &[u8], table: &mut [u8]) -> 
             round_at(policy, table, slot, p).unwrap_or_else(refusal_reply)
         }
     }
+}
+
+/// A preview: the round in a list of that slot alone, since "A round is that of the seat's session and touches nothing else", and
+/// in a list of no slots where 14 refuses it. What is held there afterwards is given.
+pub(super) fn preview(preview: Preview, policy: &[u8], table: &[u8]) -> (u32, [u8; 12]) {
+    let named = slot_at(table, preview.slot).filter(|_| preview.slot <= 63);
+    let mut alone = named.map_or(Vec::new(), Vec::from);
+    let reply = round_at(policy, &mut alone, 0, preview.p).unwrap_or_else(refusal_reply);
+    let given = slot_at(&alone, 0).filter(|slot| is_held(*slot));
+    (reply, given.unwrap_or([0; 12]))
 }

@@ -6,8 +6,8 @@ use super::log;
 use super::model::model;
 use super::policy::{check, Refusal};
 use super::session::{open, round, Ending, Phase, Session, Verdict};
-use super::table_bytes::operate;
-use crate::calls::{asked_of, Call, Memory, Operation, Version, PART};
+use super::table_bytes::{operate, preview};
+use crate::calls::{asked_of, Call, Memory, Operation, Preview, Version, PART};
 
 /// Byte 0 is the number of the refusal, byte 1 that of the policy's record, where it has one.
 pub fn refusal_reply(refusal: Refusal) -> u32 {
@@ -138,5 +138,17 @@ impl Version for Plain {
 
     fn operate(&mut self, operation: Operation, policy: &mut [u8], table: &mut [u8]) -> u32 {
         operate(operation, policy, table).unwrap_or_else(refusal_reply)
+    }
+
+    fn preview(
+        &mut self,
+        at: Preview,
+        policy: &mut [u8],
+        table: &mut [u8],
+        memory: &mut Memory,
+    ) -> u32 {
+        let (answer, given) = preview(at, policy, table);
+        memory.set_slot(given);
+        answer.unwrap_or_else(refusal_reply)
     }
 }

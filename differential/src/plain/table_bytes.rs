@@ -2,8 +2,8 @@
 
 use super::interface::{decode, encode, ending_reply};
 use super::policy::Refusal;
-use super::tables::{open_at, round_at, Slot};
-use crate::calls::Operation;
+use super::tables::{open_at, preview_at, round_at, Slot};
+use crate::calls::{Operation, Preview};
 
 /// Twelve bytes for each slot; bytes left over at the end are not touched.
 pub const SLOT_BYTES: usize = 12;
@@ -66,4 +66,16 @@ pub fn operate(operation: Operation, policy: &[u8], table: &mut [u8]) -> Result<
     };
     write_table(&slots, table);
     Ok(reply)
+}
+
+/// A preview from the lent bytes: its answer, and the twelve bytes of the slot that it gives.
+pub fn preview(
+    preview: Preview,
+    policy: &[u8],
+    table: &[u8],
+) -> (Result<u32, Refusal>, [u8; SLOT_BYTES]) {
+    let slots = read_table(table);
+    let (answer, given) = preview_at(policy, &slots, preview.slot, preview.p);
+    let bytes = write_slot(&given).unwrap_or([0; SLOT_BYTES]);
+    (answer.map(ending_reply), bytes)
 }

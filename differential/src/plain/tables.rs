@@ -1,4 +1,5 @@
-//! Tables of slots (document 02, R-5, "A station with many callers"). What the paper calls a seat is a slot here.
+//! Tables of slots (document 02, R-5, "A station with many callers", and R-6, "Show me before I send it"). What the paper calls a
+//! seat is a slot here.
 
 use super::policy::{check, Refusal};
 use super::session::{is_service, open, round, Ending, Phase, Session};
@@ -79,4 +80,22 @@ pub fn round_at(policy: &[u8], slots: &mut [Slot], slot: usize, p: u16) -> Resul
     let (ending, session) = round(policy, &session, p)?;
     slots[slot] = Slot::Held { owner, session };
     Ok(ending)
+}
+
+/// "The preview's answer and session are those of the same round on a copy of the list, refusals included, and the list itself is
+/// left; where the seat is empty or one that 14 refuses, no session is given." The session comes with its owner, as the copy's
+/// slot; an empty slot where none is given. Bytes that are no slot hold no session.
+pub fn preview_at(
+    policy: &[u8],
+    slots: &[Slot],
+    slot: usize,
+    p: u16,
+) -> (Result<Ending, Refusal>, Slot) {
+    let mut copy = slots.to_vec();
+    let answer = round_at(policy, &mut copy, slot, p);
+    let given = match within(&copy, slot) {
+        Ok(()) if matches!(copy[slot], Slot::Held { .. }) => copy[slot],
+        _ => Slot::Empty,
+    };
+    (answer, given)
 }

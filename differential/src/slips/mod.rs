@@ -6,13 +6,14 @@ mod log;
 mod model;
 mod names;
 mod policy;
+mod previews;
 mod round;
 mod tables;
 mod weights;
 
 pub use names::{Slip, Slipped, CONTROLS, SLIPS};
 
-use crate::calls::{Call, Memory, Operation, Version};
+use crate::calls::{Call, Memory, Operation, Preview, Version};
 use crate::plain::interface::refusal_reply;
 use crate::plain::policy::Refusal;
 
@@ -55,6 +56,17 @@ impl Version for Slipped {
 
     fn operate(&mut self, operation: Operation, policy: &mut [u8], table: &mut [u8]) -> u32 {
         self.at(operation, policy, table)
+            .unwrap_or_else(refusal_reply)
+    }
+
+    fn preview(
+        &mut self,
+        preview: Preview,
+        policy: &mut [u8],
+        table: &mut [u8],
+        memory: &mut Memory,
+    ) -> u32 {
+        self.preview_at(preview, policy, table, memory)
             .unwrap_or_else(refusal_reply)
     }
 }

@@ -189,6 +189,33 @@ pub enum Slip {
     NoSlotNine,
     HeldAlone,
     HeldTwo,
+    PreviewNext,
+    PreviewFirst,
+    PreviewSixtyFour,
+    PreviewSixtyThree,
+    PreviewNothing,
+    PreviewUntested,
+    PreviewFourteenEarly,
+    PreviewEmptyEarly,
+    PreviewEmptyHeld,
+    PreviewEmptyOpened,
+    PreviewPast,
+    PreviewLast,
+    PreviewNoSlot,
+    PreviewPolicyNone,
+    PreviewClosedNone,
+    PreviewUnsoundNone,
+    PreviewBefore,
+    PreviewOwner,
+    PreviewSessionAlone,
+    PreviewAccepted,
+    PreviewGiven,
+    PreviewHeldAlone,
+    PreviewLong,
+    PreviewPlays,
+    PreviewGrants,
+    PreviewResets,
+    PreviewCounts,
 }
 
 /// The same code with nothing wrong in it, its candidates sorted, and by blocks.
@@ -198,7 +225,7 @@ pub const CONTROLS: [(Slip, &str); 2] = [
 ];
 
 /// Each slip with what is wrong.
-pub const SLIPS: [(Slip, &str); 185] = [
+pub const SLIPS: [(Slip, &str); 212] = [
     (
         Slip::BreachUnread,
         "grants on the service alone, the breach mark unread",
@@ -692,6 +719,105 @@ pub const SLIPS: [(Slip, &str); 185] = [
     (
         Slip::HeldTwo,
         "tables: a slot is held where byte 1 is 2 and more, too",
+    ),
+    (
+        Slip::PreviewNext,
+        "previews: of the slot after the one named",
+    ),
+    (
+        Slip::PreviewFirst,
+        "previews: of slot 0, whichever is named",
+    ),
+    (Slip::PreviewSixtyFour, "previews: slot 64 allowed"),
+    (Slip::PreviewSixtyThree, "previews: slot 63 refused 14"),
+    (
+        Slip::PreviewNothing,
+        "previews: of a round that shows nothing",
+    ),
+    (
+        Slip::PreviewUntested,
+        "previews: the policy not tested, a refused one taken for one of no records",
+    ),
+    (
+        Slip::PreviewFourteenEarly,
+        "previews: 14 tested before the policy",
+    ),
+    (
+        Slip::PreviewEmptyEarly,
+        "previews: an empty slot tested before the policy",
+    ),
+    (
+        Slip::PreviewEmptyHeld,
+        "previews: a session of zeros given for an empty slot",
+    ),
+    (
+        Slip::PreviewEmptyOpened,
+        "previews: an opened session given for an empty slot",
+    ),
+    (
+        Slip::PreviewPast,
+        "previews: the session past the 64th slot given",
+    ),
+    (
+        Slip::PreviewLast,
+        "previews: past the end, the last slot's session given",
+    ),
+    (
+        Slip::PreviewNoSlot,
+        "previews: bytes that are no slot given as they stand",
+    ),
+    (
+        Slip::PreviewPolicyNone,
+        "previews: no session given where the policy is refused",
+    ),
+    (
+        Slip::PreviewClosedNone,
+        "previews: no session given where the session is closed",
+    ),
+    (
+        Slip::PreviewUnsoundNone,
+        "previews: no session given where the session is refused 7 or 8",
+    ),
+    (
+        Slip::PreviewBefore,
+        "previews: the session given as it was before the round",
+    ),
+    (Slip::PreviewOwner, "previews: owner 0 given"),
+    (
+        Slip::PreviewSessionAlone,
+        "previews: a session given without owner and byte 1, which stay as they were",
+    ),
+    (
+        Slip::PreviewAccepted,
+        "previews: written only where the round is not refused",
+    ),
+    (
+        Slip::PreviewGiven,
+        "previews: written only where a session is given",
+    ),
+    (
+        Slip::PreviewHeldAlone,
+        "previews: only byte 1 cleared where no session is given",
+    ),
+    (
+        Slip::PreviewLong,
+        "previews: one byte written after the slot",
+    ),
+    (
+        Slip::PreviewPlays,
+        "previews: the round played in the table",
+    ),
+    (
+        Slip::PreviewGrants,
+        "previews: the round played in the table where it grants",
+    ),
+    (
+        Slip::PreviewResets,
+        "previews: a slot emptied where its round is refused",
+    ),
+    (
+        Slip::PreviewCounts,
+        "previews: the round counted in the table",
     ),
 ];
 

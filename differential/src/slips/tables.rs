@@ -6,11 +6,11 @@ use crate::plain::interface::decode;
 use crate::plain::policy::Refusal;
 use crate::plain::session::{sound, Phase};
 
-type Bytes = [u8; 12];
+pub(super) type Bytes = [u8; 12];
 
 /// What stands in a slot.
 #[derive(Clone, Copy, PartialEq, Eq)]
-enum State {
+pub(super) enum State {
     Empty,
     Fresh,
     Waiting,
@@ -19,7 +19,7 @@ enum State {
 }
 
 /// Writes a slot, as far as the table goes.
-fn put(table: &mut [u8], slot: usize, bytes: Bytes) {
+pub(super) fn put(table: &mut [u8], slot: usize, bytes: Bytes) {
     let first = slot.saturating_mul(12).min(table.len());
     for (to, from) in table[first..].iter_mut().zip(bytes) {
         *to = from;
@@ -39,7 +39,7 @@ struct Opening {
 
 impl Slipped {
     /// The slot that a number is taken for.
-    fn number(&self, slot: usize) -> usize {
+    pub(super) fn number(&self, slot: usize) -> usize {
         match self.0 {
             Slip::SlotSixBits => slot % 64,
             Slip::SlotByte => slot % 256,
@@ -49,7 +49,7 @@ impl Slipped {
         }
     }
 
-    fn slots(&self, table: &[u8]) -> usize {
+    pub(super) fn slots(&self, table: &[u8]) -> usize {
         match self.0 {
             Slip::TailSlot => table.len().div_ceil(12),
             _ => table.len() / 12,
@@ -57,7 +57,7 @@ impl Slipped {
     }
 
     /// The bytes of a slot, zeros where the table has ended.
-    fn get(&self, table: &[u8], slot: usize) -> Bytes {
+    pub(super) fn get(&self, table: &[u8], slot: usize) -> Bytes {
         let mut bytes = [0; 12];
         if slot < self.slots(table) {
             for (to, from) in bytes.iter_mut().zip(&table[12 * slot..]) {
@@ -68,7 +68,7 @@ impl Slipped {
     }
 
     /// Whether 14 applies.
-    fn outside(&self, table: &[u8], slot: usize) -> bool {
+    pub(super) fn outside(&self, table: &[u8], slot: usize) -> bool {
         let most = match self.0 {
             Slip::SlotSixtyFour => 64,
             Slip::SlotSixtyThree => 62,
@@ -78,7 +78,7 @@ impl Slipped {
         slot >= self.slots(table) || slot > most
     }
 
-    fn state(&self, bytes: Bytes) -> State {
+    pub(super) fn state(&self, bytes: Bytes) -> State {
         let held = match bytes[1] {
             0 if self.is(Slip::HeldAlone) || bytes == [0; 12] => return State::Empty,
             2.. if self.is(Slip::HeldTwo) => true,
@@ -243,7 +243,13 @@ impl Slipped {
         first.filter(|_| self.is(Slip::OwnersFirst)).unwrap_or(slot)
     }
 
-    fn round_at(&self, policy: &[u8], table: &mut [u8], n: usize, p: u16) -> Result<u32, Refusal> {
+    pub(super) fn round_at(
+        &self,
+        policy: &[u8],
+        table: &mut [u8],
+        n: usize,
+        p: u16,
+    ) -> Result<u32, Refusal> {
         let refuse = |number| Err(Refusal::without_record(number));
         let outside = self.outside(table, n);
         let turned_away = match outside {

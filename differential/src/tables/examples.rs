@@ -1,6 +1,6 @@
-//! Examples of tables: what is answered to a few operations under policy A, of any version.
+//! Examples of tables: what is answered to a few operations and previews under policy A, of any version.
 
-use crate::calls::{ending_of, refusal_of, Operation, Version, ASK, DENY, GRANT};
+use crate::calls::{ending_of, refusal_of, Memory, Operation, Preview, Version, ASK, DENY, GRANT};
 use crate::marked::policy_a;
 
 fn open(slot: usize, owner: u8) -> Operation {
@@ -43,8 +43,48 @@ fn four() -> Vec<Operation> {
     operations
 }
 
+/// A slot of owner 7 with a fresh session for request 16.
+const FRESH: [u8; 12] = [7, 1, 16, 0, 0, 0, 0, 0, 0, 0, 0, 0];
+
+/// Whether a preview in a table of such a slot and an empty one replies so, gives these twelve bytes, and leaves the table.
+fn shows(v: &mut dyn Version, mut policy: Vec<u8>, at: Preview, wanted: (u32, [u8; 12])) -> bool {
+    let table = [FRESH, [0; 12]].concat();
+    let (mut lent, mut memory) = (table.clone(), Memory([0xa5; 32]));
+    let reply = v.preview(at, &mut policy, &mut lent, &mut memory);
+    let mut after = Memory([0xa5; 32]);
+    after.set_slot(wanted.1);
+    (reply, memory) == (wanted.0, after) && lent == table
+}
+
+/// Examples of previews.
+fn previews(v: &mut dyn Version) -> Vec<(&'static str, bool)> {
+    let at = |slot, p| Preview { slot, p };
+    let (a, refused) = (policy_a(), vec![0; 18]);
+    let question = [7, 1, 16, 0, 0, 0, 0, 0, 1, 1, 4, 0];
+    let granted = [7, 1, 16, 0, 4, 0, 0, 0, 1, 2, 0, 0];
+    let none = [0; 12];
+    let all = [
+        ("a question previewed", &a, at(0, 0), (ASK << 8, question)),
+        ("a grant previewed", &a, at(0, 4), (GRANT << 8, granted)),
+        ("an empty slot previewed", &a, at(1, 0), (8, none)),
+        ("past the end previewed", &a, at(2, 0), (14, none)),
+        ("a refused policy", &refused, at(0, 0), (3, FRESH)),
+        ("a refused policy, empty", &refused, at(1, 0), (3, none)),
+        ("a refused policy, 14", &refused, at(64, 0), (3, none)),
+    ];
+    all.map(|(name, policy, at, wanted)| (name, shows(v, policy.clone(), at, wanted)))
+        .to_vec()
+}
+
 /// Each example with whether the version gives what document 02 says.
 pub fn examples(v: &mut dyn Version) -> Vec<(&'static str, bool)> {
+    let mut all = operations(v);
+    all.extend(previews(v));
+    all
+}
+
+/// Examples of openings and rounds.
+fn operations(v: &mut dyn Version) -> Vec<(&'static str, bool)> {
     let turns = [
         open(0, 1),
         open(4, 2),

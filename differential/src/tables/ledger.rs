@@ -1,11 +1,12 @@
 //! What is read from a list of openings and rounds and its answers alone, never from the table: whose sessions are unfinished, and
-//! the rounds at a slot "from an opening there that was not refused to the next such".
+//! the rounds at a slot "from an opening there that was not refused to the next such". Previews change nothing of it.
 
 use crate::calls::Operation;
 use crate::clients::{Manner, Seen};
 use crate::plain::lists::{asked, closes, shown_by, Accepted};
 use crate::plain::session::is_service;
 use crate::plain::tables::{MOST_SLOTS, MOST_UNFINISHED};
+use crate::tester::Previewed;
 use std::collections::HashMap;
 
 /// A session at a slot: who opened it for what, how its client answers, and its rounds so far.
@@ -99,6 +100,22 @@ impl Ledger {
             (Operation::Round { .. }, None) => 8,
             (Operation::Round { .. }, Some(opened)) if opened.closed() => 9,
             _ => 0,
+        }
+    }
+
+    /// What is broken of what the list says of a preview's slot, the table all empty at first: a session is given just where one was
+    /// opened, of that owner and request.
+    pub fn broken_preview(&self, slot: usize, seen: &Previewed) -> Option<&'static str> {
+        match self.at(slot) {
+            None => seen
+                .given()
+                .then_some("a session given where none was opened"),
+            Some(_) if !seen.given() => Some("no session given where one was opened"),
+            Some(opened) => {
+                let [low, high] = opened.request.to_le_bytes();
+                let wanted = [opened.owner, 1, low, high];
+                (seen.slot[..4] != wanted).then_some("another owner or request given")
+            }
         }
     }
 

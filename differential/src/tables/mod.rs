@@ -1,9 +1,10 @@
-//! Lists of openings and rounds on a table of slots, held to R-5's bound and to demand 3.
+//! Lists of openings, rounds and previews on a table of slots, held to R-5's bound and to demand 3.
 
 mod draw;
 mod every;
 mod examples;
 mod ledger;
+mod previews;
 
 pub use every::every_table;
 pub use examples::examples;
@@ -22,6 +23,13 @@ use crate::sessions::NO_SERVICES;
 use crate::tester::Tester;
 use draw::{empty, length, number, owners, table, Callers};
 use ledger::{Ledger, Opened};
+use previews::{hold_without, previewed};
+
+/// What a list has in it beside previews: another policy, or an operation with its reply.
+enum Step {
+    Policy(Vec<u8>),
+    Operation(Operation, u32),
+}
 
 /// A list as it is played.
 struct List {
@@ -29,10 +37,13 @@ struct List {
     callers: Callers,
     /// What a cooperative client holds, where there is one.
     holding: Option<u16>,
+    /// The table at first, and as it stands.
+    first: Vec<u8>,
     table: Vec<u8>,
     from_empty: bool,
     one_policy: bool,
     ledger: Ledger,
+    steps: Vec<Step>,
 }
 
 /// The policy of a list, and what a cooperative client holds.
@@ -49,7 +60,8 @@ fn policy(tester: &mut Tester) -> (Vec<Record>, Option<u16>) {
 
 fn start(tester: &mut Tester) -> List {
     let (records, holding) = policy(tester);
-    tester.set_policy(policies::encode(&records));
+    let policy = policies::encode(&records);
+    tester.set_policy(policy.clone());
     let random = &mut tester.random;
     let callers = Callers {
         owners: owners(random),
@@ -57,17 +69,20 @@ fn start(tester: &mut Tester) -> List {
         named: named(&records),
     };
     let (length, from_empty) = (length(random), random.one_in(2));
+    let first = match from_empty {
+        true => empty(random, length),
+        false => table(random, length, &callers),
+    };
     List {
-        table: match from_empty {
-            true => empty(random, length),
-            false => table(random, length, &callers),
-        },
+        table: first.clone(),
+        first,
         records,
         callers,
         holding,
         from_empty,
         one_policy: !random.one_in(3),
         ledger: Ledger::default(),
+        steps: vec![Step::Policy(policy)],
     }
 }
 
@@ -97,11 +112,17 @@ fn round(tester: &mut Tester, list: &List) -> Operation {
         8 if !unfinished.is_empty() => random.pick(&list.ledger.places(false)),
         _ => number(random, list.table.len() / SLOT_BYTES),
     };
-    let p = match list.ledger.at(slot) {
+    let p = shown_at(tester, list, slot);
+    Operation::Round { slot, p }
+}
+
+/// What is shown at a slot: what the client would show whose session was opened there in the list, or any set.
+fn shown_at(tester: &mut Tester, list: &List, slot: usize) -> u16 {
+    let random = &mut tester.random;
+    match list.ledger.at(slot) {
         Some(opened) => shows(random, opened.manner, &opened.seen()),
         None => random.credentials(list.callers.named),
-    };
-    Operation::Round { slot, p }
+    }
 }
 
 /// How a new session's client answers.
@@ -191,15 +212,14 @@ fn hold_to_list(tester: &mut Tester, list: &List, operation: Operation, reply: u
     wanted == got
 }
 
-/// One operation more; false where the versions disagree.
-fn operate(tester: &mut Tester, list: &mut List, operation: Operation) -> bool {
-    let Some((reply, after)) = tester.operate(operation, &list.table) else {
-        return false;
-    };
+/// One operation more: its reply, or nothing where there is a disagreement.
+fn operate(tester: &mut Tester, list: &mut List, operation: Operation) -> Option<u32> {
+    let (reply, after) = tester.operate(operation, &list.table)?;
     if !hold_to_list(tester, list, operation, reply) {
-        return false;
+        return None;
     }
     list.table = after;
+    list.steps.push(Step::Operation(operation, reply));
     match operation {
         Operation::Open {
             slot,
@@ -214,17 +234,28 @@ fn operate(tester: &mut Tester, list: &mut List, operation: Operation) -> bool {
         let lines = [format!("owner {owner}, by {operation:?}")];
         tester.found_in("more than four unfinished sessions", &lines);
     }
-    above.is_none()
+    above.is_none().then_some(reply)
 }
 
 /// Another policy, refused ones among them.
-fn change_policy(tester: &mut Tester, list: &List) {
+fn change_policy(tester: &mut Tester, list: &mut List) {
     let policy = match tester.random.below(3) {
         0 => damaged(&mut tester.random),
         1 => policies::encode(&policies::accepted(&mut tester.random)),
         _ => policies::encode(&list.records),
     };
+    list.steps.push(Step::Policy(policy.clone()));
     tester.set_policy(policy);
+}
+
+/// The next of a list: an opening, a round, or a preview and what follows it. False where there is a disagreement.
+fn next(tester: &mut Tester, list: &mut List) -> bool {
+    let operation = match tester.random.below(5) {
+        0 | 1 => opening(tester, list),
+        2 | 3 => round(tester, list),
+        _ => return previewed(tester, list),
+    };
+    operate(tester, list, operation).is_some()
 }
 
 /// A list of operations.
@@ -233,16 +264,13 @@ pub fn tables(tester: &mut Tester) {
     tester.counts.tables.list(list.from_empty, list.one_policy);
     for _ in 0..tester.random.range(20, 100) {
         if !list.one_policy && tester.random.one_in(5) {
-            change_policy(tester, &list);
+            change_policy(tester, &mut list);
         }
-        let operation = match tester.random.below(5) {
-            0 | 1 => opening(tester, &list),
-            _ => round(tester, &list),
-        };
-        if !operate(tester, &mut list, operation) {
+        if !next(tester, &mut list) {
             return;
         }
     }
+    hold_without(tester, &list);
     if list.one_policy {
         for (slot, opened) in list.ledger.into_sessions() {
             hold_to_demands(tester, slot, &opened);

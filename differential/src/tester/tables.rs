@@ -6,6 +6,7 @@ use crate::calls::{refusal_of, Call, Operation, Version};
 use crate::definition::{cost, Definition};
 use crate::report::hex;
 use crate::tuned::Tuned;
+use std::fmt::Debug;
 
 /// A reply, and the table after it.
 pub type After = (u32, Vec<u8>);
@@ -66,9 +67,17 @@ impl Tester<'_> {
         Some(got)
     }
 
-    /// The plain version against the tuned one, and in some cases against the definition.
-    fn operation_confirmed(&mut self, operation: Operation, table: &[u8], plain: &After) -> bool {
-        let mut versions: Vec<(&str, Box<dyn Version>)> = vec![("tuned", Box::new(Tuned))];
+    /// An operation by the version under test alone, nothing compared: the reply, the table changed in place.
+    pub fn operate_alone(&mut self, operation: Operation, table: &mut [u8]) -> u32 {
+        self.subject.operate(operation, &mut self.policy, table)
+    }
+
+    /// The versions that the plain one is held against: the tuned one, and in some cases the definition.
+    pub(super) fn other_versions(
+        &mut self,
+        operation: Operation,
+    ) -> Vec<(&'static str, Box<dyn Version>)> {
+        let mut versions: Vec<(_, Box<dyn Version>)> = vec![("tuned", Box::new(Tuned))];
         let price = match (operation, &self.rules) {
             (Operation::Round { p, .. }, Some(rules)) => cost(rules, Call::Round(p)),
             _ => 0,
@@ -78,8 +87,13 @@ impl Tester<'_> {
             self.counts.definition += 1;
         }
         self.counts.tuned += 1;
+        versions
+    }
+
+    /// The plain version against others.
+    fn operation_confirmed(&mut self, operation: Operation, table: &[u8], plain: &After) -> bool {
         let mut agreed = true;
-        for (name, version) in &mut versions {
+        for (name, version) in &mut self.other_versions(operation) {
             let other = self.operated_by(&mut **version, operation, table);
             if other != *plain {
                 let title = format!("plain version against {name} version");
@@ -91,8 +105,14 @@ impl Tester<'_> {
         agreed
     }
 
-    /// A disagreement about an operation: printed with all that it takes to repeat it.
-    fn found_in_table(&mut self, title: &str, op: Operation, table: &[u8], answers: Vec<String>) {
+    /// A disagreement about an operation or a preview: printed with all that it takes to repeat it.
+    pub(super) fn found_in_table(
+        &mut self,
+        title: &str,
+        op: impl Debug,
+        table: &[u8],
+        answers: Vec<String>,
+    ) {
         let mut lines = vec![
             format!("{op:?}"),
             format!("policy: {}", hex(&self.policy)),

@@ -11,7 +11,7 @@ pub mod tables;
 pub use check::{check, Accepted};
 pub(crate) use rules::Access;
 
-use crate::calls::{Call, Memory, Operation, Version};
+use crate::calls::{Call, Memory, Operation, Preview, Version};
 use crate::plain::interface::{call_round, encode, refusal_reply};
 use crate::plain::policy::Refusal;
 use crate::plain::session::{is_service, open, sound, Ending, Phase, Session, Verdict};
@@ -102,5 +102,17 @@ impl Version for Tuned {
 
     fn operate(&mut self, operation: Operation, policy: &mut [u8], table: &mut [u8]) -> u32 {
         tables::operate(operation, policy, table).unwrap_or_else(refusal_reply)
+    }
+
+    fn preview(
+        &mut self,
+        at: Preview,
+        policy: &mut [u8],
+        table: &mut [u8],
+        memory: &mut Memory,
+    ) -> u32 {
+        let (answer, given) = tables::preview(at, policy, table);
+        memory.set_slot(given);
+        answer.unwrap_or_else(refusal_reply)
     }
 }

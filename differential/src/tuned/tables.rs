@@ -1,7 +1,7 @@
-//! Tables (document 02, R-5) on the bytes as they are lent: nothing is read but the slot that is named, and one pass counts.
+//! Tables (document 02, R-5, R-6) on the bytes as they are lent: nothing is read but the slot that is named, and one pass counts.
 
 use super::{check, round};
-use crate::calls::Operation;
+use crate::calls::{Operation, Preview};
 use crate::plain::interface::{decode, encode, ending_reply};
 use crate::plain::policy::Refusal;
 use crate::plain::session::is_service;
@@ -67,4 +67,22 @@ pub fn operate(operation: Operation, policy: &[u8], table: &mut [u8]) -> Result<
         } => open_at(table, slot, owner, request),
         Operation::Round { slot, p } => round_at(policy, table, slot, p),
     }
+}
+
+/// The slot's twelve bytes as a round would leave them, from those bytes alone; no list is copied.
+pub fn preview(preview: Preview, policy: &[u8], table: &[u8]) -> (Result<u32, Refusal>, Bytes) {
+    let first = &table[..table.len().min(12 * 64)];
+    let named = first.as_chunks::<12>().0.get(preview.slot);
+    let mut given = named.copied().unwrap_or([0; 12]);
+    let [_, held, bytes @ ..] = given;
+    let Some(session) = decode(bytes).filter(|_| held == 1) else {
+        let number = if named.is_some() { 8 } else { 14 };
+        let refused = Err(Refusal::without_record(number));
+        return (check(policy).map_or_else(Err, |_| refused), [0; 12]);
+    };
+    let answer = round(policy, &session, preview.p).map(|(ending, next)| {
+        given[2..].copy_from_slice(&encode(&next));
+        ending_reply(ending)
+    });
+    (answer, given)
 }

@@ -1,9 +1,7 @@
 -- `lines::after_number` meets its contract: a number, a space and a line. Assumes nothing.
-use mathlib.Core.Path.{_≡_, sym}
 use mathlib.Core.List.{[], _++_, append-assoc}
 use Prim.Native.Nat.{_≤_}
 use lib.ListN.{length}
-use lib.Seq.{length-take-le}
 use native.Mathlib.Omega.{arith}
 use Rattle.transcript.specs.Numerals.{ascii, decimal}
 use Rattle.lines.specs.Lines.{textOf}
@@ -24,41 +22,31 @@ slice-aggregate-text c = search needs
 text-requires : tie.Need-text-requires
 text-requires c κs = search needs
 
-array-share-prefix-bytes : tie.Need-array-share-prefix-bytes
-array-share-prefix-bytes c = search needs
-
-slice-aggregate-text-2 : tie.Need-slice-aggregate-text-2
-slice-aggregate-text-2 c =
-    let s = c .before .before .before .before .before .before in
-    sym (length-take-le (s .args .line .length) (s .args .line .bytes) (omega (arith, s .pre .array, s .pre .room)))
-
-text-requires-2 : tie.Need-text-requires-2
-text-requires-2 c κs =
-    let s = c .before .before .before .before .before .before in
-    let x = c .before .before .before .before .empty in
-    let y = c .before .before .before .decimal in
-    let z = c .before .text in
-    let l = length-take-le (s .args .line .length) (s .args .line .bytes) (omega (arith, s .pre .array, s .pre .room)) in
-    record {
-      array = z .ensures .array;
-      room = omega (arith, s .pre .room, x .ensures .counts, y .ensures .0 .grows, y .ensures .1, z .ensures .grows, l);
-    }
+joined-requires : tie.Need-joined-requires
+joined-requires c κs =
+    let s = c .before .before .before .before in
+    let x = c .before .before .before .empty in
+    let y = c .before .before .decimal in
+    let z = c .text in (
+      record { array = s .pre .array; room = omega (arith, s .pre .room) },
+      record { array = z .ensures .array; room = omega (arith, s .pre .room, x .ensures .counts, y .ensures .0 .grows, y .ensures .1, z .ensures .grows) },
+    )
 
 returns : tie.Need-returns
 returns c =
-    let s = c .before .before .before .before .before .before .before in
-    let x = c .before .before .before .before .before .empty in
-    let y = c .before .before .before .before .decimal in
-    let z = c .before .before .text in
+    let s = c .before .before .before .before .before in
+    let x = c .before .before .before .before .empty in
+    let y = c .before .before .before .decimal in
+    let z = c .before .text in
     let n = decimal (s .args .number) in
     let rest = textOf (s .args .line) in
     let k : length n ≤ 3 = y .ensures .1 in
-    let l : length rest ≡ s .args .line .length = length-take-le (s .args .line .length) (s .args .line .bytes) (omega (arith, s .pre .array, s .pre .room)) in
     let p = prints-more (x .result) (y .result) [] n (x .ensures) (y .ensures .0) (omega (arith, k)) in
     let q = prints-more (y .result) (z .result) n (ascii " ") p (z .ensures) (omega (arith, k)) in
     let h : length (n ++ ascii " ") ≤ 4 = omega (arith, k, q .counts, p .counts, z .ensures .grows) in
-    prints-as (c .text2 .result) ((n ++ ascii " ") ++ rest) (n ++ (ascii " " ++ rest))
-    (prints-more (z .result) (c .text2 .result) (n ++ ascii " ") rest q (c .text2 .ensures) (omega (arith, h, l, s .pre .room))) (append-assoc n (ascii " ") rest)
+    prints-as (c .joined .result) ((n ++ ascii " ") ++ rest) (n ++ (ascii " " ++ rest))
+    (prints-more (z .result) (c .joined .result) (n ++ ascii " ") rest q (c .joined .ensures .0) (omega (arith, h, c .joined .ensures .1, s .pre .room)))
+    (append-assoc n (ascii " ") rest)
 
 pub after-number-spec : {M : Type 1} → statement M
 after-number-spec =
@@ -68,7 +56,5 @@ after-number-spec =
     decimal-requires
     slice-aggregate-text
     text-requires
-    array-share-prefix-bytes
-    slice-aggregate-text-2
-    text-requires-2
+    joined-requires
     returns)

@@ -2,7 +2,7 @@
 
 use crate::inputs::{Input, Inputs};
 use crate::timing::Times;
-use differential::calls::Operation;
+use differential::calls::{Operation, Preview};
 use differential::gate;
 use differential::plain::disclosure::disclosable;
 use differential::plain::policy::check;
@@ -80,18 +80,19 @@ fn trials(input: &Input) -> Option<u32> {
 }
 
 /// The deepest stack of each call, in bytes.
-fn depths(input: &Input) -> [Option<usize>; 5] {
-    let [a, b, c, d, e] = std::array::from_fn(|_| input.policy.clone());
+fn depths(input: &Input) -> [Option<usize>; 6] {
+    let [a, b, c, d, e, f] = std::array::from_fn(|_| input.policy.clone());
     let mut session = [0; 10];
     session[..2].copy_from_slice(&input.request.to_le_bytes());
     let mut table = [0, 1].into_iter().chain(session).collect::<Vec<u8>>();
-    let at_slot = Operation::Round { slot: 0, p: 0 };
+    let (at_slot, previewed) = (Operation::Round { slot: 0, p: 0 }, table.clone());
     [
         stack::depth(move || gate::check(&a)),
         stack::depth(move || gate::model(&b, 0xffff)),
         stack::depth(move || gate::disclosable(&c, 0)),
         stack::depth(move || gate::round(&d, &mut session, 0)),
         stack::depth(move || gate::operate(at_slot, &e, &mut table)),
+        stack::depth(move || gate::preview(Preview { slot: 0, p: 0 }, &f, &previewed)),
     ]
 }
 
@@ -106,8 +107,8 @@ pub fn print_stack(inputs: &Inputs) {
     println!(
         "\nDeepest stack below the caller, in bytes, of the gate; with nothing called {nothing}:\n"
     );
-    println!("| | check | model | disclosable set | first round | at a slot | its trials | sixteen weights |");
-    println!("|---|---:|---:|---:|---:|---:|---:|---:|");
+    println!("| | check | model | disclosable set | first round | at a slot | previewed | its trials | sixteen weights |");
+    println!("|---|---:|---:|---:|---:|---:|---:|---:|---:|");
     for input in inputs.all() {
         let cells = depths(input).map(show).join(" | ");
         let trials = trials(input).map_or("-".to_string(), |trials| trials.to_string());

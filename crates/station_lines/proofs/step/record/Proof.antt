@@ -6,9 +6,10 @@ use lib.ListN.{getD}
 use Rattle.rounds.specs.Moves.{showing}
 use Rattle.slots.specs.Openings.{openAt}
 use Rattle.slots.specs.RoundsAt.{roundAt}
+use Rattle.previews.specs.Previews.{previewAt}
 use Rattle.occupancy.specs.Types.{tableOf}
-use Rattle.station_lines.specs.Steps.{Does, openingStep, roundStep}
-use Rattle.station_lines.proofs.StepLaws.{step-opens, step-passes, step-plays}
+use Rattle.station_lines.specs.Steps.{Does, openingStep, previewStep, roundStep}
+use Rattle.station_lines.proofs.StepLaws.{step-opens, step-passes, step-plays, step-previews}
 use borrow.Author.Needs.{needs}
 use Rattle.station_lines.proofs.step.record.Statement.{statement}
 use Rattle.station_lines.proofs.step.record.Tie as tie
@@ -58,15 +59,29 @@ returns-2 c =
     let e = subst (λ (n : ℕ). Does r (roundStep i (showing n) (roundAt policy xs i (showing n)))) (c .before .before .before .number .ensures) (c .round .ensures) in
     (subst (Does r) (sym (step-plays policy xs b (c .before .if2 .taken))) e, refl)
 
-empty-requires : tie.Need-empty-requires
-empty-requires c κs = search needs
+preview-requires : tie.Need-preview-requires
+preview-requires c κs = search needs
 
 returns-3 : tie.Need-returns-3
 returns-3 c =
-    let s = c .before .before .before .before .before in
+    let s = c .before .before .before .before .before .before in
+    let policy = now (s .args .policy) in
     let xs = tableOf (s .args .slots) in
     let b = s .args .t3 in
-    let e = step-passes (now (s .args .policy)) xs b (c .before .before .if1 .left) (c .before .if2 .left) in
+    let r = c .preview .result in
+    let i = getD b 1 0 in
+    let e = subst (λ (n : ℕ). Does r (previewStep i (showing n) (previewAt policy xs i (showing n)) xs)) (c .before .before .before .before .number .ensures) (c .preview .ensures) in
+    (subst (Does r) (sym (step-previews policy xs b (c .before .if3 .taken))) e, refl)
+
+empty-requires : tie.Need-empty-requires
+empty-requires c κs = search needs
+
+returns-4 : tie.Need-returns-4
+returns-4 c =
+    let s = c .before .before .before .before .before .before in
+    let xs = tableOf (s .args .slots) in
+    let b = s .args .t3 in
+    let e = step-passes (now (s .args .policy)) xs b (c .before .before .before .if1 .left) (c .before .before .if2 .left) (c .before .if3 .left) in
     (rw e (record { prints = c .empty .ensures; table = refl }), refl)
 
 pub record-spec : {M : Type 1} → statement M
@@ -83,5 +98,7 @@ record-spec =
     returns
     round-requires
     returns-2
+    preview-requires
+    returns-3
     empty-requires
-    returns-3)
+    returns-4)

@@ -1,0 +1,2 @@
+-- What a preview comes to over a list.
+pub mod ListLaws

@@ -1,0 +1,3 @@
+-- The laws of the program's previews, and the theorem.
+pub mod TypeLaws
+pub mod TheoremsProof

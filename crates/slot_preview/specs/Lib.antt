@@ -1,0 +1,3 @@
+-- What the program's previews mean.
+pub mod Types
+pub mod Theorems
