@@ -33,7 +33,7 @@ from random_policies import (
     weighs,
     weights,
 )
-from solver import Search, ground, models, only_model, optima
+from solver import NUMBERS, SIZES, Search, credentials_in, ground, levels_of, models, only_model, optima, weight_of_each
 from stored import stored
 
 SEED = 2
@@ -41,8 +41,6 @@ VECTORS = 600
 MOST_RECORDS = 128
 LEAST = 5  # a shape that fewer vectors have is too rare to tell anything
 Vector = collections.namedtuple("Vector", "records request shown askable")
-SIZES = [1] * 16
-NUMBERS = [1 << credential for credential in range(16)]
 
 
 # Policies with several ways to a service.
@@ -121,30 +119,21 @@ def some_vector(draw):
 # The solvers' answers.
 
 
-def credentials_in(bits):
-    return [credential for credential in range(16) if bits >> credential & 1]
-
-
-def weight_of_each(vector):
-    """What each credential weighs: "unnamed ones weigh 1"."""
-    named = {head: sum(1 << bit for bit in positive) for kind, head, positive, _ in vector.records if kind == WEIGHT}
-    return [named.get(credential, 1) for credential in range(16)]
-
-
 def unlocks(vector):
     """Whether what is shown unlocks the request."""
     return models(ground(vector.records, ACCESS, vector.shown), Search((), (vector.request,), (BREACH,))) != []
 
 
-def least(vector, *levels, forbidden=(BREACH,)):
-    """The sets to ask for that unlock the request and cost least on these levels, as numbers."""
-    search = Search(credentials_in(vector.askable), (vector.request,), forbidden, levels)
+def least(vector, *costs, forbidden=(BREACH,)):
+    """The sets to ask for that unlock the request and cost least on a level for each of these costs, as numbers."""
+    choices = credentials_in(vector.askable)
+    search = Search(choices, (vector.request,), forbidden, levels_of(choices, *costs))
     return [model & vector.askable for model in optima(ground(vector.records, ACCESS, vector.shown), search)]
 
 
 def preferred(vector):
     """"the least total weight, then the fewest credentials, then the smallest number", as a number; None where there is none."""
-    found = least(vector, weight_of_each(vector), SIZES, NUMBERS)
+    found = least(vector, weight_of_each(vector.records), SIZES, NUMBERS)
     if len(found) > 1:
         sys.exit(f"several optima: {vector}")
     return found[0] if found else None
@@ -168,7 +157,7 @@ def line(place, vector, asked):
 
 def weight_shapes(vector, asked):
     """What the weights do in a question."""
-    every = weight_of_each(vector)
+    every = weight_of_each(vector.records)
     free = sum(1 << credential for credential in range(16) if every[credential] == 0)
     total = sum(every[credential] for credential in credentials_in(asked))
     (fewest,) = least(vector, SIZES, NUMBERS)

@@ -11,7 +11,8 @@ With the papers, headings and first columns from document 01's title on have to 
 nothing more, and first columns before it the three demands of 00-customers-letter.md; from document 02's title on, the text of
 02-change-requests.md up to the last request that is on the page. What stands in quotation marks, on the page,
 in docs/DECISIONS.md and in the comments of crates/*/specs, has to be in one of the papers, word for word; `..` and `...` leave
-something out, and fewer than three words are not looked for. White space and marks of layout are not compared.
+something out, and fewer than three words are not looked for. A sentence that a case of conformance/ tests has to be in the document
+that it names. White space and marks of layout are not compared.
 
 What is wrong is printed, and the exit status is then 1.
 """
@@ -150,6 +151,15 @@ def misquoted(papers):
                 yield f"{name}: in no paper: {quotation}"
 
 
+def pack_misquotes(papers):
+    """The sentences that the conformance pack's cases test."""
+    texts = {name[:2]: plain(paper) for name, paper in papers.items()}
+    for path in sorted(ROOT.glob("conformance/*/*.txt")):
+        for document, sentence in set(re.findall(r'^tests (\d+) "(.*)"$', path.read_text(), re.M)):
+            if plain(sentence) not in texts.get(document, ""):
+                yield f"{path.relative_to(ROOT)}: not in document {document}: {sentence}"
+
+
 def papers_in(folder):
     files = [path for path in sorted(folder.glob("*")) if path.suffix in (".md", ".txt")]
     return {path.name: path.read_text(encoding="utf-8", errors="replace") for path in files}
@@ -164,7 +174,7 @@ def main():
         papers = papers_in(given.papers)
         if missing := [name for name in PAPERS if name not in papers]:
             arguments.error(f"{given.papers} has no {missing[0]}")
-        wrong += [*page_differs(page, papers), *misquoted(papers)]
+        wrong += [*page_differs(page, papers), *misquoted(papers), *pack_misquotes(papers)]
     print("\n".join(wrong) or f"{PAGE} is right" + (", and all quotations" if given.papers else ""))
     return 1 if wrong else 0
 

@@ -75,7 +75,7 @@ fn storeys(rules: &[Record]) -> u32 {
 }
 
 /// What is to be told of an accepted policy.
-fn accepted(rules: &[Record]) -> [bool; 8] {
+pub fn accepted(rules: &[Record]) -> [bool; 8] {
     let below = below(rules);
     let sizes = |rule: &Record| in_loop(&below, rule.head).count_ones();
     let looped = |rule: &Record| sizes(rule) > 1 || rule.positive >> rule.head & 1 == 1;
@@ -122,7 +122,7 @@ fn nots_in_loops(rules: &[Record]) -> Vec<(Record, usize)> {
 }
 
 /// What is to be told of a policy that is refused 6.
-fn refused(records: &[Record], rules: &[Record]) -> [bool; 10] {
+pub fn refused(records: &[Record], rules: &[Record]) -> [bool; 10] {
     let all = nots_in_loops(rules);
     let shortest = all.iter().map(|(_, size)| *size).min().unwrap_or(0);
     let nots = rules.iter().map(|rule| Record {

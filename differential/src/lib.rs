@@ -5,11 +5,13 @@ pub mod bench_runs;
 pub mod calls;
 pub mod candidates;
 pub mod clients;
+pub mod conformance;
 pub mod counts;
 pub mod damage;
 pub mod definition;
 pub mod demands;
 pub mod exhaustive;
+#[cfg(feature = "gate")]
 pub mod gate;
 pub mod level_counts;
 pub mod leveling;
@@ -24,6 +26,7 @@ pub mod preview_counts;
 pub mod question_counts;
 pub mod questions;
 pub mod random;
+#[cfg(feature = "gate")]
 pub mod replay;
 pub mod report;
 pub mod requests;
@@ -38,4 +41,5 @@ pub mod tuned;
 pub mod weighing;
 pub mod weight_counts;
 pub mod weighted;
+#[cfg(feature = "gate")]
 pub mod weighted_runs;

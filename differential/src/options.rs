@@ -13,6 +13,7 @@ pub const USAGE: &str = "options of differential/run:
   --slip-cases N   cases in which a slip must be found out (default 300000)
   --replay DIR     replay a disagreement that was written down
   --no-build       library and bench program as they stand
+  --board COMMAND  last: try this program, with --bench-runs and --seed, in place of ours; --station: it takes station input
   --help           this text";
 
 pub struct Options {

@@ -8,7 +8,7 @@ use crate::plain::weights::{by_preference, total_weight, weights};
 use crate::tuned::{check, Access};
 
 /// Classes of refused policies.
-const FAULTS: [&str; 11] = [
+pub const FAULTS: [&str; 11] = [
     "4, kind 3 with head 16",
     "12, weight 16",
     "12, a weight whose low byte is 15 or less",
@@ -23,7 +23,7 @@ const FAULTS: [&str; 11] = [
 ];
 
 /// Classes of questions under a policy with weights.
-const QUESTIONS: [&str; 10] = [
+pub const QUESTIONS: [&str; 10] = [
     "another set than by size",
     "larger than by size",
     "of as light ones smaller than another",
@@ -59,7 +59,7 @@ fn add_all(to: &mut [u64], from: impl IntoIterator<Item = u64>) {
 }
 
 /// What is to be told of a policy that is refused at record k.
-fn faults(records: &[Record], number: u32, k: usize) -> [bool; 11] {
+pub fn faults(records: &[Record], number: u32, k: usize) -> [bool; 11] {
     let record = &records[k];
     let (weight, kind) = (record.positive, record.kind);
     let same = |other: &&Record| other.kind == WEIGHT && other.head == record.head;
@@ -113,6 +113,27 @@ fn against(weights: &[u8; 16], all: &[u16], asked: u16) -> [bool; 5] {
     ]
 }
 
+/// What is to be told of a question under weights, by the session that it leaves, what may be asked, and what is.
+pub fn classes(policy: &[u8], rules: &Policy, session: &Session, sets: (u16, u16)) -> [bool; 10] {
+    let (may_ask, asked) = sets;
+    let weights = weights(&rules.weights);
+    let named = rules.weights.iter().fold(0, |set, r| set | 1u16 << r.head);
+    let of_weight = |w: u8| (0..16).any(|k| asked >> k & 1 == 1 && weights[k] == w);
+    let mut found = [false; 10];
+    if may_ask.count_ones() <= FEW {
+        let all = unlocking(policy, session, may_ask);
+        found[..5].copy_from_slice(&against(&weights, &all, asked));
+    }
+    found[5..].copy_from_slice(&[
+        of_weight(0),
+        total_weight(&weights, asked) == 0,
+        of_weight(15),
+        asked & !named != 0,
+        number(asked, may_ask) > 255,
+    ]);
+    found
+}
+
 impl WeightCounts {
     /// Counts a policy by the reply of its test.
     pub fn policy(&mut self, policy: &[u8], rules: Option<&Policy>, reply: u32) {
@@ -132,22 +153,7 @@ impl WeightCounts {
         if rules.weights.is_empty() {
             return;
         }
-        let (may_ask, asked) = sets;
-        let weights = weights(&rules.weights);
-        let named = rules.weights.iter().fold(0, |set, r| set | 1u16 << r.head);
-        let of_weight = |w: u8| (0..16).any(|k| asked >> k & 1 == 1 && weights[k] == w);
-        let mut found = [false; 10];
-        if may_ask.count_ones() <= FEW {
-            let all = unlocking(policy, session, may_ask);
-            found[..5].copy_from_slice(&against(&weights, &all, asked));
-        }
-        found[5..].copy_from_slice(&[
-            of_weight(0),
-            total_weight(&weights, asked) == 0,
-            of_weight(15),
-            asked & !named != 0,
-            number(asked, may_ask) > 255,
-        ]);
+        let found = classes(policy, rules, session, sets);
         self.asked += 1;
         add_all(&mut self.questions, found.map(u64::from));
     }

@@ -4,7 +4,7 @@ use super::policy::{check, Refusal};
 use super::session::{open, round, Ending, Session};
 
 /// "It reads the file policy.bin (at most 2,305 bytes of it)"
-const MOST_READ: usize = 2305;
+pub(super) const MOST_READ: usize = 2305;
 
 /// "2-byte little-endian records: first the request, then one shown set a round. A last odd byte counts for nothing"
 fn records(input: &[u8]) -> Vec<u16> {
@@ -15,7 +15,7 @@ fn records(input: &[u8]) -> Vec<u16> {
 }
 
 /// "A refusal prints "refused" with its number, and for the policy "at" with its record number"
-fn refused(refusal: Refusal) -> String {
+pub(super) fn refused(refusal: Refusal) -> String {
     match refusal.record {
         Some(record) => format!("refused {} at {}\n", refusal.number, record),
         None => format!("refused {}\n", refusal.number),
@@ -24,7 +24,7 @@ fn refused(refusal: Refusal) -> String {
 
 /// ""round", the count, "got", the shown set p as four lower-case hexadecimal digits, then "ask" with four digits, or "grant",
 /// or "deny""
-fn line(session: &Session, p: u16, ending: Ending) -> String {
+pub(super) fn line(session: &Session, p: u16, ending: Ending) -> String {
     let answer = match ending {
         Ending::Ask(asked) => format!("ask {asked:04x}"),
         Ending::Grant => "grant".to_string(),

@@ -10,6 +10,7 @@ pub mod log;
 pub mod model;
 pub mod policy;
 pub mod session;
+pub mod station;
 pub mod table_bytes;
 pub mod tables;
 pub mod weights;

@@ -1,7 +1,7 @@
 //! Rounds that are made so that the question has a given size among so many that may be asked; and such rounds with weights.
 
 mod rules;
-mod shapes;
+pub mod shapes;
 
 use crate::calls::{asked_of, ending_of, refusal_of, Memory, ASK};
 use crate::candidates::{number, subset};
@@ -53,6 +53,26 @@ pub fn made_policy(
     let service = renumber(random, &mut records)[usize::from(service)];
     let bytes = policies::encode(&records);
     (bytes, service.into(), sides.may_ask, sides.shown)
+}
+
+/// A policy under which sets lie to each other in this shape, the preferred one of this size among so many; the service, and what
+/// has to be shown at first.
+pub fn asking(
+    random: &mut Random,
+    shape: Shape,
+    members: usize,
+    size: usize,
+) -> (Vec<Record>, u16, u16) {
+    let sides = Sides {
+        declined: 0,
+        ..sides(random, members)
+    };
+    let service = random.range(LEAST_SERVICE, 62) as u8;
+    let numbers = wanted(random, shape, members, size);
+    let sets: Vec<u16> = numbers.iter().map(|n| subset(*n, sides.may_ask)).collect();
+    let mut records = records(random, &sides, service, &sets);
+    let service = renumber(random, &mut records)[usize::from(service)];
+    (records, service.into(), sides.shown)
 }
 
 /// A session and what is shown in the round, so that after it the sides are as wanted.
@@ -111,7 +131,7 @@ fn round(tester: &mut Tester, p: u16, memory: Memory) -> Option<(u16, Memory)> {
 }
 
 /// Weights of all sixteen, or of some.
-fn weighed(random: &mut Random) -> Vec<Record> {
+pub fn weighed(random: &mut Random) -> Vec<Record> {
     let weights = weights(random);
     let named = match random.one_in(2) {
         true => 0xffff,
