@@ -1,7 +1,7 @@
 #!/usr/bin/env python3
 """Runs the bench program many times, each time in a folder of its own, and compares all that it prints.
 
-    scripts/bench_runs.py [PROGRAM]     default: target/bin/bench, which `rt check bench` makes
+    scripts/bench_runs.py [PROGRAM]     default: target/bin/bench, which `scripts/build bench` makes
 
 The runs and what they have to print are bench_sessions.py's. Some are given in pieces, split at every place; in some a line has to come
 before the next record is given; in some nothing can be printed, and the program has only to end. Exit statuses are not compared.

@@ -1,7 +1,7 @@
 #!/usr/bin/env python3
 """Runs the programs `record_log` and `compare_logs` many times, each time in a folder of its own, and compares all that they print.
 
-    scripts/log_runs.py [FOLDER]     where the programs are; default: target/bin, where `rt check record_log compare_logs` puts them
+    scripts/log_runs.py [FOLDER]     where the programs are; default: target/bin, where `scripts/build record_log compare_logs` puts them
 
 `record_log` gets the policies and inputs of bench_sessions.py. Its log has to have a record for each line of a round that the bench
 program has to print there, and standard error the line of a refused policy or request; a refused round gives nothing. `compare_logs` gets

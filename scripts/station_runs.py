@@ -1,7 +1,7 @@
 #!/usr/bin/env python3
 """Runs the program `station` many times, each time in a folder of its own, and compares all that it prints.
 
-    scripts/station_runs.py [PROGRAM]     default: target/bin/station, which `rt check station` makes
+    scripts/station_runs.py [PROGRAM]     default: target/bin/station, which `scripts/build station` makes
 
 The runs and what they have to print are station_sessions.py's. Some are given in pieces, split at every place; in some a line has to come
 before the next record is given; in some nothing can be printed, and the program has only to end. Exit statuses are not compared.

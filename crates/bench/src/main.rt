@@ -4,8 +4,8 @@
 ghost use Rattle.lines.specs.Lines.{Room};
 
 use console::reader::Reader;
-use libc::{STDIN_FILENO, STDOUT_FILENO};
 use lines::line::Line;
+use std::io::Read;
 
 #[derive(Clone, Copy)]
 enum Next {
@@ -13,18 +13,18 @@ enum Next {
     End,
 }
 
-fn main() {
+fn main(rt: HostRuntime) {
     let mut space = files::room();
-    let bytes = files::policy(&mut space);
-    run(&space[..bytes]);
+    let bytes = files::policy(&rt, &mut space);
+    run(&rt, &mut rt.reader(), &space[..bytes]);
 }
 
 // A proved loop has to end, and nothing says that the input does: bytes are counted down from more than any run has.
-fn run(policy: &[u8]) {
+fn run(rt: &impl Print, input: &mut impl Read, policy: &[u8]) {
     let mut reader = Reader::begin();
     let mut left = u64::MAX;
     while left > 0 {
-        match step(policy, reader) {
+        match step(rt, input, policy, reader) {
             Next::Byte(after) => {
                 reader = after;
             }
@@ -37,25 +37,25 @@ fn run(policy: &[u8]) {
 }
 
 // Waits for a byte and prints what it prints. Ends with the output, with the input, or where a line cannot be written.
-fn step(policy: &[u8], reader: Reader) -> Next {
+fn step(rt: &impl Print, input: &mut impl Read, policy: &[u8], reader: Reader) -> Next {
     let mut byte = [0u8; 1];
-    if reader.ended() || libc::read(STDIN_FILENO, &mut byte) != 1 {
+    if reader.ended() || files::read_full(input, &mut byte) != 1 {
         return Next::End;
     }
     let step = reader.next(policy, byte[0]);
     let event = step.event;
     let after = step.reader;
-    if !print(lines::of_event(event)) {
+    if !print(rt, lines::of_event(event)) {
         return Next::End;
     }
     Next::Byte(after)
 }
 
 // Whether the line is written.
-fn print(line: Line) -> bool
+fn print(rt: &impl Print, line: Line) -> bool
     requires { Room line 0 }
 {
     let bytes = line.bytes;
     let length = line.length;
-    io::write_all(STDOUT_FILENO, &bytes[..length])
+    rt.write_all(&bytes[..length]).is_ok()
 }

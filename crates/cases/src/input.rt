@@ -1,12 +1,12 @@
 // The numbers of a case: two bytes each, little-endian.
-use libc::STDIN_FILENO;
 use question::Question;
 use session::{Phase, Session, Verdict};
+use std::io::Read;
 
 // The next number; 0 at the end of the input.
-pub(crate) fn number() -> u16 {
+pub(crate) fn number(from: &mut impl Read) -> u16 {
     let mut bytes = [0u8; 2];
-    io::read_full(STDIN_FILENO, &mut bytes);
+    files::read_full(from, &mut bytes);
     joined(bytes[0], bytes[1])
 }
 
@@ -16,13 +16,13 @@ fn joined(low: u8, high: u8) -> u16 {
 }
 
 // A session, sound or not: request, shown, declined, count, phase and question.
-pub(crate) fn session() -> Session {
+pub(crate) fn session(from: &mut impl Read) -> Session {
     Session {
-        request: number(),
-        shown: number(),
-        declined: number(),
-        count: (number() % 256) as u8,
-        phase: phase(number(), number()),
+        request: number(from),
+        shown: number(from),
+        declined: number(from),
+        count: (number(from) % 256) as u8,
+        phase: phase(number(from), number(from)),
     }
 }
 

@@ -8,10 +8,11 @@ mod print;
 // A proved loop has to end: no more cases are read.
 const MOST_CASES: u64 = 65536;
 
-fn main() {
-    let mut space = io::buffer();
+fn main(rt: HostRuntime) {
+    let mut space = [0u8; 4096];
+    let mut input = rt.reader();
     let mut left = MOST_CASES;
-    while left > 0 && case::run(&mut space) {
+    while left > 0 && case::run(&rt, &mut input, &mut space) {
         left -= 1;
     }
 }

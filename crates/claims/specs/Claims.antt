@@ -57,7 +57,7 @@
 --   notice_in
 -- recorder: Flagged, flagged, record_in
 -- and the cases of the types among them, and the maps from the program's types (specs/Types of records, policy, disclosure, model, search, question,
--- session, slot_steps, slot_preview, occupancy, station_table, replay, entries, log and recorder; specs/Steps of console). What a word computes is no
+-- session, slot_steps, slot_preview, occupancy, station_table, replay, entries, log_comparison and recorder; specs/Steps of console). What a word computes is no
 -- matter of belief where a theorem here says what it gives: the operations on sets, the closure, the model, the disclosable set, the tests, the
 -- preferred question, the sets shown and declined, the digits. That lent bytes are not written stands in the contract of each function that a host or a
 -- client calls, demands 1 and 2 of each call in those of `open`, `round`, `open_at`, `round_at` and `preview_at`, demand 3 of a whole list in that of

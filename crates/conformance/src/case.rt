@@ -1,6 +1,6 @@
 // One case. First which program's it is, one byte, and how long the policy and the input are, two bytes each, little-endian. Then these two.
 use crate::{bench, print, station};
-use libc::STDIN_FILENO;
+use std::io::Read;
 
 const HEAD_BYTES: usize = 5;
 
@@ -9,9 +9,9 @@ const BENCH: u8 = 1;
 const STATION: u8 = 2;
 
 // Reads a case and prints its lines; false if no whole one is left, or there is no room for it.
-pub(crate) fn run(number: u64, space: &mut [u8]) -> bool {
+pub(crate) fn run(rt: &impl Print, from: &mut impl Read, number: u64, space: &mut [u8]) -> bool {
     let mut head = [0u8; HEAD_BYTES];
-    if io::read_full(STDIN_FILENO, &mut head) != HEAD_BYTES {
+    if files::read_full(from, &mut head) != HEAD_BYTES {
         return false;
     }
     let program = head[0];
@@ -20,10 +20,10 @@ pub(crate) fn run(number: u64, space: &mut [u8]) -> bool {
     if end > space.len() {
         return false;
     }
-    if io::read_full(STDIN_FILENO, &mut space[0..end]) != end {
+    if files::read_full(from, &mut space[0..end]) != end {
         return false;
     }
-    play(number, program, &space[0..policy], &space[policy..end])
+    play(rt, number, program, &space[0..policy], &space[policy..end])
 }
 
 // The number whose two bytes these are.
@@ -32,15 +32,15 @@ fn joined(low: u8, high: u8) -> u16 {
 }
 
 // Prints the lines of a case; false if it is neither program's.
-fn play(number: u64, program: u8, policy: &[u8], input: &[u8]) -> bool {
+fn play(rt: &impl Print, number: u64, program: u8, policy: &[u8], input: &[u8]) -> bool {
     if program != BENCH && program != STATION {
         return false;
     }
-    print::case(number);
+    print::case(rt, number);
     if program == BENCH {
-        bench::run(policy, input);
+        bench::run(rt, policy, input);
     } else {
-        station::run(policy, input);
+        station::run(rt, policy, input);
     }
     true
 }

@@ -9,10 +9,11 @@ mod station;
 // A proved loop has to end: no more cases are read.
 const MOST_CASES: u64 = 65536;
 
-fn main() {
-    let mut space = io::large_buffer();
+fn main(rt: HostRuntime) {
+    let mut space = [0u8; 65536];
+    let mut input = rt.reader();
     let mut number: u64 = 1;
-    while number <= MOST_CASES && case::run(number, &mut space) {
+    while number <= MOST_CASES && case::run(&rt, &mut input, number, &mut space) {
         number += 1;
     }
 }

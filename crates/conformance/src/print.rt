@@ -1,25 +1,24 @@
 // What is printed.
 ghost use Rattle.lines.specs.Lines.{Room};
 
-use libc::STDOUT_FILENO;
 use lines::line::Line;
 
-fn text(bytes: &[u8]) {
-    io::write_all(STDOUT_FILENO, bytes);
+fn text(rt: &impl Print, bytes: &[u8]) {
+    let _ = rt.write_all(bytes);
 }
 
 // The line before those of a case.
-pub(crate) fn case(number: u64) {
-    text(b"case ");
-    io::print_decimal(STDOUT_FILENO, number);
-    text(b"\n");
+pub(crate) fn case(rt: &impl Print, number: u64) {
+    text(rt, b"case ");
+    let _ = rt.print(number);
+    text(rt, b"\n");
 }
 
 // A program's line.
-pub(crate) fn line(line: Line)
+pub(crate) fn line(rt: &impl Print, line: Line)
     requires { Room line 0 }
 {
     let bytes = line.bytes;
     let length = line.length;
-    text(&bytes[..length]);
+    text(rt, &bytes[..length]);
 }

@@ -3,7 +3,7 @@ use crate::print;
 use station_lines::step::{RECORD_BYTES, record};
 
 // Takes the input a record at a time, as that program does; an incomplete one at the end counts for nothing.
-pub(crate) fn run(policy: &[u8], input: &[u8]) {
+pub(crate) fn run(rt: &impl Print, policy: &[u8], input: &[u8]) {
     let mut slots = station_table::empty();
     let mut at: usize = 0;
     while input.len() - at >= RECORD_BYTES {
@@ -15,7 +15,7 @@ pub(crate) fn run(policy: &[u8], input: &[u8]) {
         let step = record(slots, policy, [operation, slot, owner, low, high]);
         let line = step.line;
         slots = step.slots;
-        print::line(line);
+        print::line(rt, line);
         at += RECORD_BYTES;
     }
 }

@@ -55,22 +55,54 @@ AlikeAnswers (refused f) (ends e) = ⊥
 AlikeAnswers (refused f) (refused g) = f ≡ g
 
 granted : (x y : Answer) → AlikeAnswers x y → (x ≡ ends grant) ↔ (y ≡ ends grant)
+granted (ends grant) (ends deny) h = elim h [ ]
+granted (ends grant) (ends (ask x)) h = elim h [ ]
+granted (ends grant) (refused g) h = elim h [ ]
+granted (ends deny) (ends grant) h = elim h [ ]
+granted (ends deny) (ends (ask x)) h = elim h [ ]
+granted (ends deny) (refused g) h = elim h [ ]
+granted (ends (ask q)) (ends grant) h = elim h [ ]
+granted (ends (ask q)) (ends deny) h = elim h [ ]
+granted (ends (ask q)) (refused g) h = elim h [ ]
+granted (refused f) (ends _) h = elim h [ ]
 granted (ends grant) (ends grant) h = (λ _. refl, λ _. refl)
 granted (ends deny) (ends deny) h = (λ e. clash (cc), λ e. clash (cc))
 granted (ends (ask q)) (ends (ask x)) h = (λ e. clash (cc), λ e. clash (cc))
 granted (refused f) (refused g) h = (λ e. clash (cc), λ e. clash (cc))
 
 denied : (x y : Answer) → AlikeAnswers x y → (x ≡ ends deny) ↔ (y ≡ ends deny)
+denied (ends grant) (ends deny) h = elim h [ ]
+denied (ends grant) (ends (ask x)) h = elim h [ ]
+denied (ends grant) (refused g) h = elim h [ ]
+denied (ends deny) (ends grant) h = elim h [ ]
+denied (ends deny) (ends (ask x)) h = elim h [ ]
+denied (ends deny) (refused g) h = elim h [ ]
+denied (ends (ask q)) (ends grant) h = elim h [ ]
+denied (ends (ask q)) (ends deny) h = elim h [ ]
+denied (ends (ask q)) (refused g) h = elim h [ ]
+denied (refused f) (ends _) h = elim h [ ]
 denied (ends grant) (ends grant) h = (λ e. clash (cc), λ e. clash (cc))
 denied (ends deny) (ends deny) h = (λ _. refl, λ _. refl)
 denied (ends (ask q)) (ends (ask x)) h = (λ e. clash (cc), λ e. clash (cc))
 denied (refused f) (refused g) h = (λ e. clash (cc), λ e. clash (cc))
 
 turned_away_lem : (x y : Answer) → AlikeAnswers x y → (f : Refusal) → (x ≡ refused f) ↔ (y ≡ refused f)
+turned_away_lem (ends e) (refused i) h f = elim h [ ]
+turned_away_lem (refused g) (ends d) h f = elim h [ ]
 turned_away_lem (ends e) (ends d) h f = (λ e. clash (cc), λ e. clash (cc))
 turned_away_lem (refused g) (refused i) h f = (λ e. ap refused (sym h) ∙ e, λ e. ap refused h ∙ e)
 
 asked : (x y : Answer) → AlikeAnswers x y → (q : Question) → x ≡ ends (ask q) → (p : Question) × (y ≡ ends (ask p))
+asked (ends grant) (ends deny) h q e = elim h [ ]
+asked (ends grant) (ends (ask p)) h q e = elim h [ ]
+asked (ends grant) (refused g) h q e = elim h [ ]
+asked (ends deny) (ends grant) h q e = elim h [ ]
+asked (ends deny) (ends (ask p)) h q e = elim h [ ]
+asked (ends deny) (refused g) h q e = elim h [ ]
+asked (ends (ask q)) (ends grant) h r e = elim h [ ]
+asked (ends (ask q)) (ends deny) h r e = elim h [ ]
+asked (ends (ask q)) (refused g) h r e = elim h [ ]
+asked (refused f) (ends _) h q e = elim h [ ]
 asked (ends grant) (ends grant) h q e = clash (cc)
 asked (ends deny) (ends deny) h q e = clash (cc)
 asked (ends (ask q)) (ends (ask p)) h r e = (p, refl)

@@ -36,6 +36,7 @@ heads_askable pol = go pol.disclosure (λ k i. i)
 
 -- what holds if some rule heads k
 askable_some : (Q : Type 0) (rs : List Rule) (k : ℕ) → Every (λ r. r.head ≡ k → Q) rs → OneOf k (map (λ r. r.head) rs) → Q
+askable_some Q [] k h x'' = elim x'' [ ]
 askable_some Q (r ∷ rs) k h (inl e) = h.0 (sym e)
 askable_some Q (r ∷ rs) k h (inr i) = askable_some Q rs k h.1 i
 

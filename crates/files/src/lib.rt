@@ -2,8 +2,13 @@
 #![tactic(auto)]
 
 ghost use Rattle.std.specs.Prelude.{◌≡◌, length};
-ghost use Rattle.io.specs.Counts.{IsPrefixLen};
+ghost use Rattle.std.specs.Counts.{IsPrefixLen};
 ghost use Rattle.transcript.specs.Events.{policy_bytes};
+
+use std::fs;
+use std::io::Read;
+use std::rt::Files;
+use std::str::from_utf8;
 
 // One byte more than any policy has.
 pub const POLICY_BYTES: usize = 2305;
@@ -25,38 +30,41 @@ pub fn room() -> [u8; POLICY_BYTES]
 }
 
 // Reads policy.bin and says how many bytes there are; a file that cannot be read counts as empty.
-pub fn policy(space: &mut [u8; POLICY_BYTES]) -> usize
+pub fn policy(rt: &impl Files, space: &mut [u8; POLICY_BYTES]) -> usize
     ensures { IsPrefixLen result space.new }
 {
-    read(b"policy.bin", space).bytes
+    read(rt, b"policy.bin", space).bytes
 }
 
-// Reads until there is no room left or the file ends.
-pub fn read(path: &[u8], space: &mut [u8]) -> Contents
+// Reads until there is no room left or the file ends. No name but UTF-8 text is opened.
+pub fn read(rt: &impl Files, path: &[u8], space: &mut [u8]) -> Contents
     ensures { IsPrefixLen result.bytes space.new }
 {
-    let file = os::open_read(path);
-    if file < 0 {
-        return Contents {
-            readable: false,
-            bytes: 0,
-        };
+    let Ok(name) = from_utf8(path) else {
+        return unreadable();
+    };
+    let Ok(file) = fs::open(rt, name) else {
+        return unreadable();
+    };
+    fill(file, space)
+}
+
+fn unreadable() -> Contents
+    ensures { result.bytes ≡ 0 }
+{
+    Contents {
+        readable: false,
+        bytes: 0,
     }
-    let contents = fill(file, space);
-    libc::close(file);
-    contents
 }
 
 // The same of a file that is open.
-fn fill(file: i32, space: &mut [u8]) -> Contents
+fn fill<F: Read + Drop>(mut file: F, space: &mut [u8]) -> Contents
     ensures { IsPrefixLen result.bytes space.new }
 {
-    let bytes = io::read_full(file, space);
-    if bytes < space.len() && !at_end(file) {
-        return Contents {
-            readable: false,
-            bytes: 0,
-        };
+    let bytes = read_full(&mut file, space);
+    if bytes < space.len() && !at_end(&mut file) {
+        return unreadable();
     }
     Contents {
         readable: true,
@@ -65,7 +73,35 @@ fn fill(file: i32, space: &mut [u8]) -> Contents
 }
 
 // There is nothing more to read, and reading does not fail.
-fn at_end(file: i32) -> bool {
+fn at_end(file: &mut impl Read) -> bool {
     let mut byte = [0u8; 1];
-    libc::read(file, &mut byte) == 0
+    match file.read(&mut byte) {
+        Ok(n) => n == 0,
+        Err(_) => false,
+    }
+}
+
+// Reads until there is no room left, the input ends or a read fails, and says how many bytes there are.
+pub fn read_full(input: &mut impl Read, space: &mut [u8]) -> usize
+    ensures { IsPrefixLen result space.new }
+{
+    let mut done = 0;
+    while done < space.len() {
+        let n = read_some(input, &mut space[done..]);
+        if n == 0 {
+            break;
+        }
+        done += n;
+    }
+    done
+}
+
+// One read; 0 where the input ends or the read fails.
+fn read_some(input: &mut impl Read, space: &mut [u8]) -> usize
+    ensures { IsPrefixLen result space.new }
+{
+    match input.read(space) {
+        Ok(n) => n,
+        Err(_) => 0,
+    }
 }

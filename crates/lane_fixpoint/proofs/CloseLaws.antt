@@ -127,3 +127,19 @@ module _ (heads positive negated : List ℕ) (from to : ℕ) (before first : Lis
           ∙ closed_settle 256 level (lane_at before) (heads_of level) (lane_at after) passes lanes_closed (64 * t + i) (omega (arith, l, n))
           ∙ ap (settle level) (lane_at_lem before t i n);
     }
+
+-- what the last pass, which is idle, leaves: the sets of each lane, and the count
+module _ (heads positive negated : List ℕ) (from to : ℕ) (before first table after : List ℕ) (progress : Progress) (passes : ℕ) (low : from ≤ to)
+    (u : Reduced negated from to before first) (c : Closing heads positive negated from (to - from) first table passes)
+    (p : Passed heads positive from (to - from) table after progress) (idle : progress.added ≡ 0) where
+  closed : LanesClosedIn (rules_in heads positive negated from (to - from)) first after (passes + 1)
+  closed = closing_idle heads positive negated from (to - from) first table after progress passes c p idle
+
+  level_is : LevelClosed heads positive negated from (to - from) before after progress.possible
+  level_is = level_closed heads positive negated from to before first low u after (passes + 1) closed progress.possible p.long p.covers
+
+  pub idle_each : (t i : ℕ) → t < 4 → i < 64 → lane after t i ≡ settle (rules_in heads positive negated from (to - from)) (lane before t i)
+  idle_each = level_is.each
+
+  pub idle_passes : passes + 1 ≡ lane_pass_count (rules_in heads positive negated from (to - from)) before
+  idle_passes = lanes_passes heads positive negated from to before first low u after (passes + 1) closed

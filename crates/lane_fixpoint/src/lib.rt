@@ -22,6 +22,7 @@ pub struct Fixpoint {
 }
 
 // The rules of one level: "not" is read first, then passes are made until one is idle. No lane has an atom outside `possible`.
+#[tactic(auto, using(crate::proofs::CloseLaws::idle_each, crate::proofs::CloseLaws::idle_passes))]
 pub fn close<'a>(
     table: &'a mut [u64; 768],
     heads: &'a [u64; 128],

@@ -62,6 +62,7 @@ fn part(kind: u8, set: AtomSet) -> AtomSet
 }
 
 // No head has a negated atom on its own level.
+#[tactic(auto, using(crate::proofs::MemberLaws::testing_met))]
 pub(crate) fn test<'a>(
     negated: &'a [u64; 64],
     heads: AtomSet,

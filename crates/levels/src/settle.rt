@@ -23,6 +23,7 @@ pub(crate) fn settle<'a>(
 }
 
 // The first level above all that have an atom of the set.
+#[tactic(auto, using(atoms::proofs::SetLaws::meets))]
 fn over(at: &[u64; 65], count: usize, set: AtomSet) -> usize
     requires { count ≤ 64 }
     ensures { Lowest at.now count set.bits result }

@@ -1,7 +1,6 @@
 -- The theorems of specs/Theorems: the text of the lines is that of what the calls tell. Assumes nothing.
 use mathlib.Core.Path.{◌∙◌, ◌≡◌, ap₂, refl, sym}
 use mathlib.Core.List.{List, [], ◌++◌, ◌∷◌, flat_map}
-use Prim.Native.Nat.{ℕ}
 use Rattle.transcript.proofs.OutputLaws.{printed_more}
 use Rattle.transcript.specs.Output.{printed}
 use Rattle.console.proofs.TheoremsProof as console

@@ -40,6 +40,7 @@ map_append f (x ∷ xs) ys = ap (◌∷◌ (f x)) (map_append f xs ys)
 -- ---- what holds of each element holds of every one of them
 
 pub every_one_of : {A : Type 0} (P : A → Type 0) (xs : List A) → Every P xs → (x : A) → OneOf x xs → P x
+every_one_of {A = A} P [] h x x4 = elim x4 [ ]
 every_one_of P (y ∷ ys) h x (inl e) = subst P (sym e) h.0
 every_one_of P (y ∷ ys) h x (inr i) = every_one_of P ys h.1 x i
 

@@ -67,6 +67,7 @@ pub fn compare(first: &[u8], second: &[u8]) -> Compared
 }
 
 // The test of one log: its length, then its records.
+#[tactic(auto, unfolding(validation::specs::Tests::first_failed, logs::specs::Entries::entries_of))]
 fn test(log: &[u8]) -> Tested
     ensures { tested_of result ≡ first_failed (log_tests log.now) }
 {

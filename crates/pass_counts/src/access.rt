@@ -8,6 +8,7 @@ use fixpoint::close;
 
 // Prints the count of each level, and then the model.
 pub(crate) fn closed<'a>(
+    rt: &impl Print,
     heads: &'a [u64; 128],
     positive: &'a [u64; 128],
     negated: &'a [u64; 128],
@@ -16,13 +17,14 @@ pub(crate) fn closed<'a>(
 )
     requires { Placed level_count heads.now starts.now }
 {
-    print::text(b" access");
-    let model = levels(heads, positive, negated, starts, credentials);
-    print::set(b" model ", model.bits, 16);
+    print::text(rt, b" access");
+    let model = levels(rt, heads, positive, negated, starts, credentials);
+    print::set(rt, b" model ", model.bits, 16);
 }
 
 // One level after another, as far as there are rules.
 fn levels<'a>(
+    rt: &impl Print,
     heads: &'a [u64; 128],
     positive: &'a [u64; 128],
     negated: &'a [u64; 128],
@@ -38,7 +40,7 @@ fn levels<'a>(
     while from < end {
         let to = starts[level + 1];
         let fixpoint = close(heads, positive, negated, from, to, set);
-        print::count(fixpoint.passes);
+        print::count(rt, fixpoint.passes);
         set = fixpoint.set;
         level += 1;
         from = to;

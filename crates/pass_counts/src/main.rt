@@ -3,7 +3,7 @@
 
 mod access;
 mod case;
-mod disclosure;
+mod disclosing;
 mod print;
 mod start;
 mod together;
@@ -11,10 +11,11 @@ mod together;
 // A proved loop has to end: no more cases are read.
 const MOST_CASES: u64 = 65536;
 
-fn main() {
-    let mut space = io::buffer();
+fn main(rt: HostRuntime) {
+    let mut space = [0u8; 4096];
+    let mut input = rt.reader();
     let mut number: u64 = 0;
-    while number < MOST_CASES && case::run(&mut space) {
+    while number < MOST_CASES && case::run(&rt, &mut input, &mut space) {
         number += 1;
     }
 }

@@ -1,34 +1,33 @@
 // The parts of a line.
-use libc::STDOUT_FILENO;
 use policy::refusal::Refusal;
 
-pub(crate) fn text(bytes: &[u8]) {
-    io::write_all(STDOUT_FILENO, bytes);
+pub(crate) fn text(rt: &impl Print, bytes: &[u8]) {
+    let _ = rt.write_all(bytes);
 }
 
 // A set after a word, in so many digits.
-pub(crate) fn set(word: &[u8], bits: u64, digits: usize) {
-    text(word);
-    io::print_hex(STDOUT_FILENO, bits, digits);
+pub(crate) fn set(rt: &impl Print, word: &[u8], bits: u64, digits: usize) {
+    text(rt, word);
+    let _ = print!(rt; "{bits:0digits$x}");
 }
 
 // A number after a word.
-fn number(word: &[u8], n: u64) {
-    text(word);
-    io::print_decimal(STDOUT_FILENO, n);
+fn number(rt: &impl Print, word: &[u8], n: u64) {
+    text(rt, word);
+    let _ = rt.print(n);
 }
 
-pub(crate) fn name(letters: &[u8]) {
-    text(letters);
-    text(b":");
+pub(crate) fn name(rt: &impl Print, letters: &[u8]) {
+    text(rt, letters);
+    text(rt, b":");
 }
 
-pub(crate) fn count(passes: u8) {
-    number(b" ", passes as u64);
+pub(crate) fn count(rt: &impl Print, passes: u8) {
+    number(rt, b" ", passes as u64);
 }
 
-pub(crate) fn refused(refusal: Refusal) {
-    number(b" refused ", refusal.number() as u64);
-    number(b" at ", refusal.record() as u64);
-    text(b"\n");
+pub(crate) fn refused(rt: &impl Print, refusal: Refusal) {
+    number(rt, b" refused ", refusal.number() as u64);
+    number(rt, b" at ", refusal.record() as u64);
+    text(rt, b"\n");
 }

@@ -8,6 +8,7 @@ use arrays::{LEVELS, Starts};
 
 // Prints the count of each level. Lane j begins with the credentials, their low eight bits replaced by j.
 pub(crate) fn closed<'a>(
+    rt: &impl Print,
     heads: &'a [u64; 128],
     positive: &'a [u64; 128],
     negated: &'a [u64; 128],
@@ -18,12 +19,13 @@ pub(crate) fn closed<'a>(
 {
     let mut table = [0u64; 768];
     fill(&mut table, credentials);
-    print::text(b" together");
-    levels(&mut table, heads, positive, negated, starts);
+    print::text(rt, b" together");
+    levels(rt, &mut table, heads, positive, negated, starts);
 }
 
 // One level after another, as far as there are rules.
 fn levels<'a>(
+    rt: &impl Print,
     table: &'a mut [u64; 768],
     heads: &'a [u64; 128],
     positive: &'a [u64; 128],
@@ -38,7 +40,7 @@ fn levels<'a>(
     while from < end {
         let to = starts[level + 1];
         let fixpoint = lane_fixpoint::close(table, heads, positive, negated, from, to, u64::MAX);
-        print::count(fixpoint.passes);
+        print::count(rt, fixpoint.passes);
         level += 1;
         from = to;
     }

@@ -30,6 +30,7 @@ pub(crate) fn check_record(parsed: Record, k: u8, weighed: AtomSet) -> Checked
 }
 
 // The refusal of the first test that fails, at record k.
+#[tactic(auto, unfolding(validation::specs::Tests::first_failed, validation::specs::Tests::relabelled))]
 fn first_failed(head: bool, body: bool, k: u8) -> Checked
     ensures { checked_of result ≡ first_failed (at_record k ((head, 4) ∷ (body, 5) ∷ [])) }
 {

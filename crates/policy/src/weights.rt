@@ -13,6 +13,7 @@ use atoms::AtomSet;
 use records::{Record, WEIGHT};
 
 // The refusal of the first test of a weight that fails, at record k.
+#[tactic(auto, unfolding(validation::specs::Tests::first_failed, validation::specs::Tests::relabelled))]
 pub(crate) fn weight_failed(head: bool, body: bool, first: bool, k: u8) -> Checked
     ensures { checked_of result ≡ first_failed (at_record k ((head, 4) ∷ (body, 12) ∷ (first, 13) ∷ [])) }
 {
@@ -36,6 +37,7 @@ pub(crate) fn weight_body(parsed: Record) -> bool
 }
 
 // The weighed credentials with one record more, whose head is an atom.
+#[tactic(auto, using(crate::proofs::WeighedLaws::weighed_same))]
 pub(crate) fn with_weighed(weighed: AtomSet, parsed: Record) -> AtomSet
     requires { parsed.head ≤ violation }
     ensures { (ds : List R.Record) → Weighed ds weighed.bits → Weighed (ds ++ (record_of parsed ∷ [])) result.bits }

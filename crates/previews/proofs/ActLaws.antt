@@ -1,5 +1,5 @@
 -- Previews among openings and rounds: they change nothing, and what they show stays so. Assumes nothing.
-use mathlib.Core.Path.{◌∙◌, ◌≡◌, ap, refl, subst, sym}
+use mathlib.Core.Path.{◌∙◌, ◌≡◌, ap, refl, sym}
 use mathlib.Core.Logic.{◌≢◌}
 use mathlib.Core.Bool.{◌&&◌}
 use mathlib.Core.List.{List, [], ◌++◌, ◌∷◌}
@@ -8,16 +8,16 @@ use Prim.Native.Nat.{ℕ}
 use lib.Dec.{ltb}
 use lib.ListN.{length, length-set}
 use Rattle.lists.specs.Lists.{Every}
-use Rattle.lists.specs.Runs.{Turn, last, reached, run}
+use Rattle.lists.specs.Runs.{last, reached, run}
 use Rattle.lists.proofs.RunLaws.{reached_next}
 use Rattle.rounds.specs.Moves.{Move}
 use Rattle.rounds.specs.Refusals.{Refusal}
 use Rattle.rounds.specs.Rounds.{Answer}
 use Rattle.slots.specs.Openings.{Reply, open_at}
 use Rattle.slots.specs.RoundsAt.{round_at}
-use Rattle.slots.specs.Slots.{Slot, in_table, slot_at, slot_limit}
+use Rattle.slots.specs.Slots.{Slot, slot_limit}
 use Rattle.slots.proofs.TableLaws.{OpeningCase, RoundAtCase, inside, opening_case, outside, round_at-case, taken, turned_away_lem}
-use Rattle.operations.specs.Operations.{Answered, Operation, Step, named, operate, opens, plays, steps_of}
+use Rattle.operations.specs.Operations.{Answered, Operation, named, operate, opens, plays, steps_of}
 use Rattle.operations.proofs.ApartLaws.{apart}
 use Rattle.previews.specs.Acts.{Act, Acted, ActsMean, Between, Told, act, acts_of, does, operations_in, previews, slots_after, steps_in}
 use Rattle.previews.specs.Previews.{preview_at}

@@ -1,7 +1,6 @@
 -- The examples, computed from the definitions. Assumes nothing.
 use mathlib.Core.Path.{refl}
 use lib.Count.{ones_in}
-use lib.ListN.{replicate}
 use Rattle.encoding.specs.LittleEndian.{bytes_of, little_endian}
 use Rattle.lists.specs.Runs.{last, run}
 use Rattle.lists.specs.Sums.{sum}

@@ -5,7 +5,6 @@ use Rattle.encoding.specs.LittleEndian.{Bytes}
 use Rattle.lists.specs.Lists.{Every}
 use Rattle.lists.specs.Runs.{last, reached}
 use Rattle.rounds.specs.Moves.{Move}
-use Rattle.rounds.specs.Rounds.{Answer}
 use Rattle.slots.specs.Openings.{Reply}
 use Rattle.slots.specs.RoundsAt.{refused_by, round_at}
 use Rattle.slots.specs.Slots.{InTable, Slot, slot_at, slot_limit}

@@ -7,10 +7,11 @@ mod vector;
 // A proved loop has to end: no more vectors are read.
 const MOST_VECTORS: u64 = 65536;
 
-fn main() {
-    let mut space = io::buffer();
+fn main(rt: HostRuntime) {
+    let mut space = [0u8; 4096];
+    let mut input = rt.reader();
     let mut number: u64 = 0;
-    while number < MOST_VECTORS && vector::run(number, &mut space) {
+    while number < MOST_VECTORS && vector::run(&rt, &mut input, number, &mut space) {
         number += 1;
     }
 }

@@ -1,29 +1,29 @@
 // One vector: the request, what is shown and the length of the policy, and then the policy.
 use crate::print;
-use libc::STDIN_FILENO;
 use session::{Move, Opened, Session};
+use std::io::Read;
 
 // Reads a vector and prints its line; false if there is none left, or no room for its policy.
-pub(crate) fn run(place: u64, space: &mut [u8]) -> bool {
-    let request = number();
+pub(crate) fn run(rt: &impl Print, from: &mut impl Read, place: u64, space: &mut [u8]) -> bool {
+    let request = number(from);
     if request == 0 {
         return false;
     }
-    let shows = number();
-    let bytes = number() as usize;
+    let shows = number(from);
+    let bytes = number(from) as usize;
     if bytes > space.len() {
         return false;
     }
-    io::read_full(STDIN_FILENO, &mut space[0..bytes]);
-    print::start(place, request, shows);
-    first_round(&space[0..bytes], request, shows);
+    files::read_full(from, &mut space[0..bytes]);
+    print::start(rt, place, request, shows);
+    first_round(rt, &space[0..bytes], request, shows);
     true
 }
 
 // The next number, two bytes, little-endian; 0 at the end of the input.
-fn number() -> u16 {
+fn number(from: &mut impl Read) -> u16 {
     let mut bytes = [0u8; 2];
-    io::read_full(STDIN_FILENO, &mut bytes);
+    files::read_full(from, &mut bytes);
     joined(bytes[0], bytes[1])
 }
 
@@ -33,15 +33,15 @@ fn joined(low: u8, high: u8) -> u16 {
 }
 
 // Opens a session and plays a round.
-fn first_round(policy: &[u8], request: u16, shows: u16) {
+fn first_round(rt: &impl Print, policy: &[u8], request: u16, shows: u16) {
     match Session::open(request) {
         Opened::Fresh(session) => {
             let outcome = session.round(policy, Move { shows });
             let answer = outcome.answer;
-            print::answer(answer);
+            print::answer(rt, answer);
         }
         Opened::Refused(refusal) => {
-            print::refused(refusal);
+            print::refused(rt, refusal);
         }
     }
 }

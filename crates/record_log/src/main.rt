@@ -6,9 +6,9 @@ ghost use Rattle.lines.specs.Lines.{Room};
 
 use console::event::Event;
 use console::reader::Reader;
-use libc::{STDERR_FILENO, STDIN_FILENO, STDOUT_FILENO};
 use lines::line::Line;
 use recorder::Logged;
+use std::io::Read;
 
 #[derive(Clone, Copy)]
 enum Next {
@@ -16,18 +16,18 @@ enum Next {
     End,
 }
 
-fn main() {
+fn main(rt: HostRuntime) {
     let mut space = files::room();
-    let bytes = files::policy(&mut space);
-    run(&space[..bytes]);
+    let bytes = files::policy(&rt, &mut space);
+    run(&rt, &rt.stderr(), &mut rt.reader(), &space[..bytes]);
 }
 
 // A proved loop has to end, and nothing says that the input does: bytes are counted down from more than any run has.
-fn run(policy: &[u8]) {
+fn run(output: &impl Print, errors: &impl Print, input: &mut impl Read, policy: &[u8]) {
     let mut reader = Reader::begin();
     let mut left = u64::MAX;
     while left > 0 {
-        match step(policy, reader) {
+        match step(output, errors, input, policy, reader) {
             Next::Byte(after) => {
                 reader = after;
             }
@@ -40,36 +40,42 @@ fn run(policy: &[u8]) {
 }
 
 // Waits for a byte and writes what it tells. Ends with the output, with the input, or where something cannot be written.
-fn step(policy: &[u8], reader: Reader) -> Next {
+fn step(
+    output: &impl Print,
+    errors: &impl Print,
+    input: &mut impl Read,
+    policy: &[u8],
+    reader: Reader,
+) -> Next {
     let mut byte = [0u8; 1];
-    if reader.ended() || libc::read(STDIN_FILENO, &mut byte) != 1 {
+    if reader.ended() || files::read_full(input, &mut byte) != 1 {
         return Next::End;
     }
     let step = reader.next(policy, byte[0]);
     let event = step.event;
     let after = step.reader;
-    if !write(event) {
+    if !write(output, errors, event) {
         return Next::End;
     }
     Next::Byte(after)
 }
 
 // Whether the event's record and notice are written.
-fn write(event: Event) -> bool {
-    keep(recording::record(event)) && print(recording::notice(event))
+fn write(output: &impl Print, errors: &impl Print, event: Event) -> bool {
+    keep(output, recording::record(event)) && print(errors, recording::notice(event))
 }
 
 // Whether the record is written to standard output, if there is one.
-fn keep(logged: Logged) -> bool {
+fn keep(output: &impl Print, logged: Logged) -> bool {
     let bytes = logged.bytes;
-    !logged.accepted || io::write_all(STDOUT_FILENO, &bytes)
+    !logged.accepted || output.write_all(&bytes).is_ok()
 }
 
 // Whether the line is written to standard error.
-fn print(line: Line) -> bool
+fn print(errors: &impl Print, line: Line) -> bool
     requires { Room line 0 }
 {
     let bytes = line.bytes;
     let length = line.length;
-    io::write_all(STDERR_FILENO, &bytes[..length])
+    errors.write_all(&bytes[..length]).is_ok()
 }

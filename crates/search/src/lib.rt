@@ -26,6 +26,7 @@ const ONE_BLOCK: usize = 8;
 
 // Candidate n tries the shown set with the members switched whose bits n has, of the first `count`. It costs 17 times the weight of these members and
 // the count of its ones. The rules are in arrays, laid out by level; the shown set alone does not unlock the request.
+#[tactic(auto, using(crate::proofs::AnswerLaws::answer_zero))]
 pub fn first<'a>(
     heads: &'a [u64; 128],
     positive: &'a [u64; 128],

@@ -15,6 +15,7 @@ pub(crate) enum Admission {
 }
 
 // Under an accepted policy.
+#[tactic(auto, using(crate::proofs::ProgramLaws::not_service, crate::proofs::ProgramLaws::not_sound, crate::proofs::ProgramLaws::not_open, crate::proofs::ProgramLaws::all_passed))]
 pub(crate) fn test(session: Session, taken: Move) -> Admission
     ensures { admission_of result ≡ session_refusal (session_of session) (move_of taken) }
 {

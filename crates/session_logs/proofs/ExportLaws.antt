@@ -30,7 +30,7 @@ use Rattle.demands.specs.Lists.{question_in}
 use Rattle.packing.specs.Exports.{Call, round_call}
 use Rattle.packing.specs.Packed.{number_at, packed, unpacked}
 use Rattle.packing.specs.Theorems.{Told, call_of, reply_for}
-use Rattle.packing.proofs.RecordLaws.{asked_in}
+use Rattle.packing.proofs.RecordLaws.{asked_in_lem}
 use Rattle.packing.proofs.TheoremsProof as packing
 use Rattle.logs.specs.Entries.{Entry, write_entry}
 use Rattle.logs.specs.LogForm.{SoundEntry, SoundLog}
@@ -64,7 +64,7 @@ replied_record_lem m (ends grant) t f g = refl
 replied_record_lem m (ends deny) t f g = refl
 replied_record_lem m (ends (ask q)) t f g =
     let (is, some_one) = g q refl in
-    let asked : number_at (packed t) 8 ≡ q.asks = asked_in t ∙ ap (λ (x : Question). x.asks) is in
+    let asked : number_at (packed t) 8 ≡ q.asks = asked_in_lem t ∙ ap (λ (x : Question). x.asks) is in
     ap (λ (o : Option Ending). map (λ (e : Ending). write_entry (ending_entry (showing m.shows) e t.count)) o)
     (ap (ending_replied 0x0300) asked ∙ asked_reply q.asks some_one)
 replied_record_lem m (refused h) t f g =

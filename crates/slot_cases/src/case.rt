@@ -1,7 +1,7 @@
 // One case. First how long the start of its line, the policy and the table are, and what is asked. Then these three.
 use crate::input::{Asked, next, number};
 use crate::print;
-use libc::STDIN_FILENO;
+use std::io::Read;
 use table_wire::{SLOT_BYTES, open_at, preview_at, round_at};
 
 const OPENING: u8 = 1;
@@ -11,14 +11,19 @@ const PREVIEW: u8 = 3;
 const OTHER: u8 = 0xa5;
 
 // Reads a case and prints its line; false if there is none left, or no room for it.
-pub(crate) fn run(space: &mut [u8], table: &mut [u8]) -> bool {
-    let start = number() as usize;
+pub(crate) fn run(
+    rt: &impl Print,
+    from: &mut impl Read,
+    space: &mut [u8],
+    table: &mut [u8],
+) -> bool {
+    let start = number(from) as usize;
     if start == 0 {
         return false;
     }
-    let policy = number() as usize;
-    let bytes = number() as usize;
-    let asked = next();
+    let policy = number(from) as usize;
+    let bytes = number(from) as usize;
+    let asked = next(from);
     let end = start + policy;
     if end > space.len() {
         return false;
@@ -26,45 +31,48 @@ pub(crate) fn run(space: &mut [u8], table: &mut [u8]) -> bool {
     if bytes > table.len() {
         return false;
     }
-    io::read_full(STDIN_FILENO, &mut space[0..end]);
-    io::read_full(STDIN_FILENO, &mut table[0..bytes]);
-    line(start, asked, &space[0..end], &mut table[0..bytes]);
+    files::read_full(from, &mut space[0..end]);
+    files::read_full(from, &mut table[0..bytes]);
+    line(rt, start, asked, &space[0..end], &mut table[0..bytes]);
     true
 }
 
 // The line of a case, with the policy after the start.
-fn line(start: usize, asked: Asked, named: &[u8], table: &mut [u8]) {
+fn line(rt: &impl Print, start: usize, asked: Asked, named: &[u8], table: &mut [u8]) {
     if start <= named.len() {
-        print::text(&named[0..start]);
-        answer(asked, &named[start..], table);
-        print::text(b"\n");
+        print::text(rt, &named[0..start]);
+        answer(rt, asked, &named[start..], table);
+        print::text(rt, b"\n");
     }
 }
 
 // A preview, or an opening or a round and the table after it.
-fn answer(asked: Asked, policy: &[u8], table: &mut [u8]) {
+fn answer(rt: &impl Print, asked: Asked, policy: &[u8], table: &mut [u8]) {
     if asked.operation == PREVIEW {
-        preview(asked, policy, table);
+        preview(rt, asked, policy, table);
     } else {
-        operation(asked, policy, table);
-        print::bytes(table);
+        operation(rt, asked, policy, table);
+        print::bytes(rt, table);
     }
 }
 
 // An opening, or else a round.
-fn operation(asked: Asked, policy: &[u8], table: &mut [u8]) {
+fn operation(rt: &impl Print, asked: Asked, policy: &[u8], table: &mut [u8]) {
     let slot = asked.slot;
     if asked.operation == OPENING {
-        print::opened(open_at(table, slot, asked.owner, asked.word));
+        print::opened(rt, open_at(table, slot, asked.owner, asked.word));
     } else {
-        print::round(round_at(policy, table, slot, asked.word));
+        print::round(rt, round_at(policy, table, slot, asked.word));
     }
 }
 
 // The reply, the table, and the preview, in which other bytes stood before.
-fn preview(asked: Asked, policy: &[u8], table: &[u8]) {
+fn preview(rt: &impl Print, asked: Asked, policy: &[u8], table: &[u8]) {
     let mut left = [OTHER; SLOT_BYTES];
-    print::round(preview_at(policy, table, asked.slot, asked.word, &mut left));
-    print::bytes(table);
-    print::bytes(&left);
+    print::round(
+        rt,
+        preview_at(policy, table, asked.slot, asked.word, &mut left),
+    );
+    print::bytes(rt, table);
+    print::bytes(rt, &left);
 }

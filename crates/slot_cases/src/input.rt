@@ -1,5 +1,5 @@
 // The numbers of a case, little-endian.
-use libc::STDIN_FILENO;
+use std::io::Read;
 
 // What is asked: the operation, its slot, the owner, and the request or the shown set.
 #[derive(Drop)]
@@ -11,19 +11,19 @@ pub(crate) struct Asked {
 }
 
 // Of one, two, four, one and two bytes.
-pub(crate) fn next() -> Asked {
+pub(crate) fn next(from: &mut impl Read) -> Asked {
     Asked {
-        operation: byte(),
-        slot: slot(),
-        owner: byte(),
-        word: number(),
+        operation: byte(from),
+        slot: slot(from),
+        owner: byte(from),
+        word: number(from),
     }
 }
 
 // The next number of two bytes; 0 at the end of the input.
-pub(crate) fn number() -> u16 {
+pub(crate) fn number(from: &mut impl Read) -> u16 {
     let mut bytes = [0u8; 2];
-    io::read_full(STDIN_FILENO, &mut bytes);
+    files::read_full(from, &mut bytes);
     joined(bytes[0], bytes[1])
 }
 
@@ -32,14 +32,14 @@ fn joined(low: u8, high: u8) -> u16 {
     low as u16 + 256 * (high as u16)
 }
 
-fn byte() -> u8 {
+fn byte(from: &mut impl Read) -> u8 {
     let mut bytes = [0u8; 1];
-    io::read_full(STDIN_FILENO, &mut bytes);
+    files::read_full(from, &mut bytes);
     bytes[0]
 }
 
-fn slot() -> usize {
-    placed(number(), number())
+fn slot(from: &mut impl Read) -> usize {
+    placed(number(from), number(from))
 }
 
 // The number whose lower and higher half these are.

@@ -8,11 +8,12 @@ mod print;
 // A proved loop has to end: no more cases are read.
 const MOST_CASES: u64 = 65536;
 
-fn main() {
-    let mut space = io::large_buffer();
-    let mut table = io::large_buffer();
+fn main(rt: HostRuntime) {
+    let mut space = [0u8; 65536];
+    let mut table = [0u8; 65536];
+    let mut input = rt.reader();
     let mut left = MOST_CASES;
-    while left > 0 && case::run(&mut space, &mut table) {
+    while left > 0 && case::run(&rt, &mut input, &mut space, &mut table) {
         left -= 1;
     }
 }

@@ -1,50 +1,50 @@
 // What is printed.
-use libc::STDOUT_FILENO;
 
-pub(crate) fn text(bytes: &[u8]) {
-    io::write_all(STDOUT_FILENO, bytes);
+pub(crate) fn text(rt: &impl Print, bytes: &[u8]) {
+    let _ = rt.write_all(bytes);
 }
 
 // The reply to an opening.
-pub(crate) fn opened(reply: u32) {
+pub(crate) fn opened(rt: &impl Print, reply: u32) {
     match reply {
-        0 => text(b"opened"),
-        _ => refused(reply),
+        0 => text(rt, b"opened"),
+        _ => refused(rt, reply),
     }
 }
 
 // The reply to a round or a preview.
-pub(crate) fn round(reply: u32) {
+pub(crate) fn round(rt: &impl Print, reply: u32) {
     match reply {
-        0x100 => text(b"grant"),
-        0x200 => text(b"deny"),
-        0x300 => text(b"ask"),
-        _ => refused(reply),
+        0x100 => text(rt, b"grant"),
+        0x200 => text(rt, b"deny"),
+        0x300 => text(rt, b"ask"),
+        _ => refused(rt, reply),
     }
 }
 
 // A refusal's number; one of the policy's has a record's number too.
-fn refused(reply: u32) {
+fn refused(rt: &impl Print, reply: u32) {
     let number = reply % 256;
-    text(b"refused ");
-    io::print_decimal(STDOUT_FILENO, number as u64);
+    text(rt, b"refused ");
+    let _ = rt.print(number);
     if number < 7 || number == 12 || number == 13 {
-        text(b" at ");
-        io::print_decimal(STDOUT_FILENO, (reply / 256) as u64);
+        text(rt, b" at ");
+        let _ = rt.print(reply / 256);
     }
 }
 
 // A blank, and the bytes of a table or a preview.
-pub(crate) fn bytes(shown: &[u8]) {
-    text(b" ");
-    digits(shown);
+pub(crate) fn bytes(rt: &impl Print, shown: &[u8]) {
+    text(rt, b" ");
+    digits(rt, shown);
 }
 
 // Two hexadecimal digits for each byte.
-fn digits(bytes: &[u8]) {
+fn digits(rt: &impl Print, bytes: &[u8]) {
     let mut i: usize = 0;
     while i < bytes.len() {
-        io::print_hex(STDOUT_FILENO, bytes[i] as u64, 2);
+        let byte = bytes[i];
+        let _ = print!(rt; "{byte:02x}");
         i += 1;
     }
 }

@@ -4,30 +4,30 @@
 
 ghost use Rattle.lines.specs.Lines.{Room};
 
-use libc::{STDIN_FILENO, STDOUT_FILENO};
 use lines::line::Line;
 use station_lines::step::{RECORD_BYTES, record};
+use std::io::Read;
 
-fn main() {
+fn main(rt: HostRuntime) {
     let mut space = files::room();
-    let bytes = files::policy(&mut space);
-    run(&space[..bytes]);
+    let bytes = files::policy(&rt, &mut space);
+    run(&rt, &mut rt.reader(), &space[..bytes]);
 }
 
 // A proved loop has to end, and nothing says that the input does: records are counted down from more than any run has. Ends with the input, or where a
 // line cannot be written.
-fn run(policy: &[u8]) {
+fn run(rt: &impl Print, input: &mut impl Read, policy: &[u8]) {
     let mut slots = station_table::empty();
     let mut left = u64::MAX;
     while left > 0 {
         let mut bytes = [0u8; RECORD_BYTES];
-        if io::read_full(STDIN_FILENO, &mut bytes) != RECORD_BYTES {
+        if files::read_full(input, &mut bytes) != RECORD_BYTES {
             return;
         }
         let step = record(slots, policy, bytes);
         let line = step.line;
         slots = step.slots;
-        if !print(line) {
+        if !print(rt, line) {
             return;
         }
         left -= 1;
@@ -35,10 +35,10 @@ fn run(policy: &[u8]) {
 }
 
 // Whether the line is written.
-fn print(line: Line) -> bool
+fn print(rt: &impl Print, line: Line) -> bool
     requires { Room line 0 }
 {
     let bytes = line.bytes;
     let length = line.length;
-    io::write_all(STDOUT_FILENO, &bytes[..length])
+    rt.write_all(&bytes[..length]).is_ok()
 }

@@ -1,13 +1,13 @@
 -- The line of a preview, and that of the round afterwards. Assumes nothing.
 use mathlib.Core.Path.{◌∙◌, ◌≡◌, ap, refl, sym}
 use mathlib.Core.List.{List, ◌++◌}
-use mathlib.Core.Option.{Option, some}
+use mathlib.Core.Option.{some}
 use Prim.Native.Nat.{ℕ}
 use Rattle.rounds.specs.Moves.{Move}
-use Rattle.rounds.specs.Rounds.{Answer, round}
+use Rattle.rounds.specs.Rounds.{round}
 use Rattle.rounds.specs.Sessions.{Session}
 use Rattle.slots.specs.RoundsAt.{refused_by, round_at}
-use Rattle.slots.specs.Slots.{Slot, slot_at}
+use Rattle.slots.specs.Slots.{Slot}
 use Rattle.operations.specs.AtSlot.{session_in}
 use Rattle.previews.specs.Previews.{Preview, preview_at}
 use Rattle.previews.proofs.PreviewLaws.{PreviewCase, empty, holds, none_there, preview_case, round_after}

@@ -25,6 +25,7 @@ pub struct Step {
 }
 
 // The next record.
+#[tactic(auto, using(crate::proofs::StepLaws::step_previews))]
 pub fn record(slots: [Slot; SLOTS], policy: &[u8], bytes: [u8; RECORD_BYTES]) -> Step
     ensures does { Does result (record_step policy.now (table_of slots) bytes) }
     ensures unchanged { policy.now ≡ policy.now }

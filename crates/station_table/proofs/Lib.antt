@@ -1,3 +1,2 @@
--- What the walks of the station's slots have in common.
-pub mod Lending
-pub mod Row
+-- What a count past the slots is.
+pub mod CountLaws

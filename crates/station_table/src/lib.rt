@@ -47,6 +47,7 @@ pub fn empty() -> [Slot; SLOTS]
 }
 
 // The count of the session at a slot, 0 where there is none.
+#[tactic(auto, using(crate::proofs::CountLaws::none_past))]
 pub fn count_at(slots: [Slot; SLOTS], slot: usize) -> u8
     ensures { result ≡ count_at (table_of slots) slot }
 {

@@ -1,3 +1,2 @@
--- Steps for walks, and what an opening and a round come to over a list.
-pub mod WalkSteps
+-- What an opening and a round come to over a list.
 pub mod ListLaws

@@ -7,6 +7,7 @@ use Prim.Native.Nat.{◌<◌, ◌^◌, ◌≤◌, ℕ}
 use lib.Dec.{ltb}
 use lib.ListN.{get_or, length, set}
 use lib.Seq.{set-get_or}
+use native.Mathlib.Omega.{arith}
 use Rattle.encoding.specs.LittleEndian.{Bytes}
 use Rattle.validation.specs.Tests.{first_failed, relabelled}
 use Rattle.validation.specs.Unless.{unless}
@@ -27,7 +28,13 @@ use Rattle.slot_steps.specs.Steps.{SlotOpening, open_slot, open_with, past_refus
 use Rattle.slot_steps.specs.Types.{Typed, slot_of}
 use Rattle.slot_steps.specs.declared.Slot.{Slot}
 use Rattle.occupancy.specs.Types.{empty_slot, slots_in, table_of}
-use Rattle.occupancy.proofs.ListLaws.{all_counted, at_slot, beyond, beyond_false, inside_true, map_set}
+use Rattle.occupancy.proofs.ListLaws.{all_counted, at_slot, beyond, beyond_false, inside_true, map_set, within}
+
+-- a number below those that can be named is a slot's, and one of 64
+pub named : (n r i : ℕ) → r ≡ slots_in n → i < r → (i < n) × (i < 64)
+named n r i e l =
+    let w = within n in
+    (omega (arith, w.0), omega (arith, w.1))
 
 -- ---- a round
 

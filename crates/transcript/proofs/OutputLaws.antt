@@ -3,20 +3,18 @@ use mathlib.Core.Path.{◌∙◌, ◌≡◌, ap, ap₂, refl, sym}
 use mathlib.Core.Bool.{Bool, false, true}
 use mathlib.Core.List.{List, [], ◌++◌, ◌∷◌, append_assoc, append-nil, flat_map}
 use mathlib.Core.Option.{none, some}
-use Prim.Native.Nat.{◌%◌, ◌*◌, ◌+◌, ◌<◌, ◌≤◌, suc, ℕ}
-use lib.Dec.{leb}
+use Prim.Native.Nat.{◌%◌, ◌*◌, ◌+◌, ◌<◌, ℕ}
 use lib.ListN.{length, length-take, take}
 use lib.Seq.{take_all}
-use borrow.Author.Tests.{le-leb, leb-false, leb-true, lt-leb}
+use borrow.Author.Tests.{lt-leb}
 use native.Mathlib.Omega.{arith}
-use Rattle.encoding.specs.LittleEndian.{Bytes, little_endian}
+use Rattle.encoding.specs.LittleEndian.{little_endian}
 use Rattle.lists.specs.Runs.{run}
 use Rattle.validation.specs.Tests.{first_failed, relabelled}
 use Rattle.validation.specs.Unless.{given, withheld}
 use Rattle.form.specs.PolicyTest.{policy_refusal, policy_tests}
 use Rattle.form.specs.WrittenForm as W
 use Rattle.form.specs.WrittenForm.{WellFormed, at}
-use Rattle.preference.specs.Question.{Question}
 use Rattle.rounds.proofs.SessionLaws.{decides_service}
 use Rattle.rounds.proofs.TheoremsProof as rounds
 use Rattle.rounds.specs.Endings.{Ending, ask, deny, grant}
@@ -24,7 +22,7 @@ use Rattle.rounds.specs.Moves.{Move, showing}
 use Rattle.rounds.specs.Refusals.{Refusal, number, of_policy}
 use Rattle.rounds.specs.Rounds.{Answer, Outcome, ends, opening, refused, round}
 use Rattle.rounds.specs.RoundTest.{opening_tests}
-use Rattle.rounds.specs.Sessions.{Finished, Service, Session, SoundSession, is_service, opened}
+use Rattle.rounds.specs.Sessions.{Service, Session, is_service, opened}
 use Rattle.transcript.specs.Events.{Event, events, input_records, policy_bytes, records_events, round_events, session_events, tested_events, unopened}
 use Rattle.transcript.specs.Lines.{answer_text, ending_text, got_text, line, refused_line, round_line, round_text}
 use Rattle.transcript.specs.Numerals.{ascii, decimal, decimal_in, digit, hexadecimal}

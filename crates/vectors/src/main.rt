@@ -7,9 +7,10 @@ mod vector;
 // A proved loop has to end: no more vectors are read.
 const MOST_VECTORS: u64 = 65536;
 
-fn main() {
+fn main(rt: HostRuntime) {
+    let mut input = rt.reader();
     let mut number: u64 = 0;
-    while number < MOST_VECTORS && vector::run(number) {
+    while number < MOST_VECTORS && vector::run(&rt, &mut input, number) {
         number += 1;
     }
 }

@@ -1,43 +1,42 @@
 // The parts of a line; the last one ends it.
 use atoms::AtomSet;
-use libc::STDOUT_FILENO;
 use policy::refusal::Refusal;
 
-fn text(bytes: &[u8]) {
-    io::write_all(STDOUT_FILENO, bytes);
+fn text(rt: &impl Print, bytes: &[u8]) {
+    let _ = rt.write_all(bytes);
 }
 
-fn decimal(n: u64) {
-    io::print_decimal(STDOUT_FILENO, n);
+fn decimal(rt: &impl Print, n: u64) {
+    let _ = rt.print(n);
 }
 
 // A set, in so many digits.
-fn set(bits: u64, digits: usize) {
-    io::print_hex(STDOUT_FILENO, bits, digits);
+fn set(rt: &impl Print, bits: u64, digits: usize) {
+    let _ = print!(rt; "{bits:0digits$x}");
 }
 
-pub(crate) fn start(number: u64, credentials: u16) {
-    text(b"vector ");
-    decimal(number);
-    text(b" credentials ");
-    set(credentials as u64, 4);
+pub(crate) fn start(rt: &impl Print, number: u64, credentials: u16) {
+    text(rt, b"vector ");
+    decimal(rt, number);
+    text(rt, b" credentials ");
+    set(rt, credentials as u64, 4);
 }
 
-pub(crate) fn model(atoms: AtomSet) {
-    text(b" model ");
-    set(atoms.bits, 16);
+pub(crate) fn model(rt: &impl Print, atoms: AtomSet) {
+    text(rt, b" model ");
+    set(rt, atoms.bits, 16);
 }
 
-pub(crate) fn disclosable(credentials: u16) {
-    text(b" disclosable ");
-    set(credentials as u64, 4);
-    text(b"\n");
+pub(crate) fn disclosable(rt: &impl Print, credentials: u16) {
+    text(rt, b" disclosable ");
+    set(rt, credentials as u64, 4);
+    text(rt, b"\n");
 }
 
-pub(crate) fn refused(refusal: Refusal) {
-    text(b" refused ");
-    decimal(refusal.number() as u64);
-    text(b" at ");
-    decimal(refusal.record() as u64);
-    text(b"\n");
+pub(crate) fn refused(rt: &impl Print, refusal: Refusal) {
+    text(rt, b" refused ");
+    decimal(rt, refusal.number() as u64);
+    text(rt, b" at ");
+    decimal(rt, refusal.record() as u64);
+    text(rt, b"\n");
 }

@@ -1,0 +1,10 @@
+use Prim.Native.Nat.{◌-◌}
+use Rattle.lane_fixpoint.proofs.CloseLaws.{Progressing}
+use Rattle.lane_fixpoint.proofs.close.Given as goal
+
+abbrev pub invariant-loop-progress : goal.invariant-loop-progress
+invariant-loop-progress l =
+    Progressing l.heads l.positive l.negated l.from (l.to - l.from) l.to l.initial.table l.table l.progress l.initial' l.passes
+
+abbrev pub decreases-loop-progress : goal.decreases-loop-progress
+decreases-loop-progress l = 64 - l.passes

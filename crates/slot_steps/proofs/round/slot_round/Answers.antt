@@ -1,0 +1,42 @@
+-- `slot_steps::round::slot_round` meets its contract: an empty slot by the policy's test and 8, a held one by its session's round. Assumes nothing.
+use mathlib.Core.Path.{◌∙◌, ap}
+use native.Mathlib.Omega.{arith}
+use Rattle.encoding.proofs.ByteLaws.{slice_bytes}
+use Rattle.session.specs.Types.{move_of, outcome_of}
+use Rattle.slot_steps.specs.Types.{Typed, answer_of, holding_of, slot_of}
+use Rattle.slot_steps.proofs.FitLaws.{slot_fits}
+use Rattle.slot_steps.proofs.StepLaws.{by_number, held_round, vacant_round}
+use Rattle.slot_steps.proofs.round.slot_round.Goals as goal
+
+pub returns-in_default : goal.returns-in_default
+returns-in_default c =
+    let typed : (let a = c.args in Typed a.policy.now (slot_of a.slot) (move_of a.taken)) =
+    let a = c.args in
+    let g = c.well_formed in
+    record {
+      policy = slice_bytes a.policy.now c.type_inv.policy;
+      slot = slot_fits a.slot _ g.0;
+      shows = omega (arith, g.1.1.0);
+    } in
+    let a = c.args in (
+      vacant_round a.policy.now (slot_of a.slot) (move_of a.taken) (answer_of c.refused_by-answer.result)
+          (ap holding_of c.in_default.is) (by_number a.policy.now 8 _ c.refused_by-answer.ensures.0),
+      typed,
+    )
+
+pub returns : goal.returns
+returns c =
+    let typed : (let a = c.args in Typed a.policy.now (slot_of a.slot) (move_of a.taken)) =
+    let a = c.args in
+    let g = c.well_formed in
+    record {
+      policy = slice_bytes a.policy.now c.type_inv.policy;
+      slot = slot_fits a.slot _ g.0;
+      shows = omega (arith, g.1.1.0);
+    } in
+    let a = c.args in (
+      c.turn_of.ensures
+          ∙ held_round a.policy.now (slot_of a.slot) (move_of a.taken) _ _ (outcome_of c.round.result)
+          (ap holding_of c.in-Held.is) c.round.ensures.answer,
+      typed,
+    )
