@@ -39,7 +39,7 @@ fn run(rt: &impl Print, input: &mut impl Read, policy: &[u8]) {
 // Waits for a byte and prints what it prints. Ends with the output, with the input, or where a line cannot be written.
 fn step(rt: &impl Print, input: &mut impl Read, policy: &[u8], reader: Reader) -> Next {
     let mut byte = [0u8; 1];
-    if reader.ended() || files::read_full(input, &mut byte) != 1 {
+    if reader.ended() || reading::read_full(input, &mut byte) != 1 {
         return Next::End;
     }
     let step = reader.next(policy, byte[0]);

@@ -15,7 +15,7 @@ pub(crate) fn run(rt: &impl Print, from: &mut impl Read, space: &mut [u8]) -> bo
     if bytes > space.len() {
         return false;
     }
-    files::read_full(from, &mut space[0..bytes]);
+    reading::read_full(from, &mut space[0..bytes]);
     line(rt, from, asked, start, &space[0..bytes]);
     true
 }

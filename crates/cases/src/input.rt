@@ -6,7 +6,7 @@ use std::io::Read;
 // The next number; 0 at the end of the input.
 pub(crate) fn number(from: &mut impl Read) -> u16 {
     let mut bytes = [0u8; 2];
-    files::read_full(from, &mut bytes);
+    reading::read_full(from, &mut bytes);
     joined(bytes[0], bytes[1])
 }
 

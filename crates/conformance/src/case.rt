@@ -11,7 +11,7 @@ const STATION: u8 = 2;
 // Reads a case and prints its lines; false if no whole one is left, or there is no room for it.
 pub(crate) fn run(rt: &impl Print, from: &mut impl Read, number: u64, space: &mut [u8]) -> bool {
     let mut head = [0u8; HEAD_BYTES];
-    if files::read_full(from, &mut head) != HEAD_BYTES {
+    if reading::read_full(from, &mut head) != HEAD_BYTES {
         return false;
     }
     let program = head[0];
@@ -20,7 +20,7 @@ pub(crate) fn run(rt: &impl Print, from: &mut impl Read, number: u64, space: &mu
     if end > space.len() {
         return false;
     }
-    if files::read_full(from, &mut space[0..end]) != end {
+    if reading::read_full(from, &mut space[0..end]) != end {
         return false;
     }
     play(rt, number, program, &space[0..policy], &space[policy..end])

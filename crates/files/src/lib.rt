@@ -5,6 +5,7 @@ ghost use Rattle.std.specs.Prelude.{◌≡◌, length};
 ghost use Rattle.std.specs.Counts.{IsPrefixLen};
 ghost use Rattle.transcript.specs.Events.{policy_bytes};
 
+use reading::read_full;
 use std::fs;
 use std::io::Read;
 use std::rt::Files;
@@ -78,30 +79,5 @@ fn at_end(file: &mut impl Read) -> bool {
     match file.read(&mut byte) {
         Ok(n) => n == 0,
         Err(_) => false,
-    }
-}
-
-// Reads until there is no room left, the input ends or a read fails, and says how many bytes there are.
-pub fn read_full(input: &mut impl Read, space: &mut [u8]) -> usize
-    ensures { IsPrefixLen result space.new }
-{
-    let mut done = 0;
-    while done < space.len() {
-        let n = read_some(input, &mut space[done..]);
-        if n == 0 {
-            break;
-        }
-        done += n;
-    }
-    done
-}
-
-// One read; 0 where the input ends or the read fails.
-fn read_some(input: &mut impl Read, space: &mut [u8]) -> usize
-    ensures { IsPrefixLen result space.new }
-{
-    match input.read(space) {
-        Ok(n) => n,
-        Err(_) => 0,
     }
 }

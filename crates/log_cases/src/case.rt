@@ -15,7 +15,7 @@ pub(crate) fn run(rt: &impl Print, from: &mut impl Read, space: &mut [u8]) -> bo
     if bytes > space.len() {
         return false;
     }
-    files::read_full(from, &mut space[0..bytes]);
+    reading::read_full(from, &mut space[0..bytes]);
     line(rt, start, first, &space[0..bytes]);
     true
 }
@@ -38,7 +38,7 @@ fn named(rt: &impl Print, start: usize, named: &[u8], second: &[u8]) {
 // The next number, two bytes, little-endian; 0 at the end of the input.
 fn number(from: &mut impl Read) -> u16 {
     let mut bytes = [0u8; 2];
-    files::read_full(from, &mut bytes);
+    reading::read_full(from, &mut bytes);
     joined(bytes[0], bytes[1])
 }
 

@@ -1,7 +1,7 @@
 // One case: a name, a set of credentials and a policy.
 ghost use Rattle.policy.specs.Types.{AcceptedWith};
 
-use crate::{access, disclosing, print, together};
+use crate::{access, disclosure, print, together};
 use atoms::AtomSet;
 use layout::access_rules;
 use policy::{Checked, examine};
@@ -21,7 +21,7 @@ fn named(rt: &impl Print, from: &mut impl Read, space: &mut [u8], letters: usize
     if letters > space.len() {
         return false;
     }
-    files::read_full(from, &mut space[0..letters]);
+    reading::read_full(from, &mut space[0..letters]);
     print::name(rt, &space[0..letters]);
     true
 }
@@ -34,7 +34,7 @@ fn answered(rt: &impl Print, from: &mut impl Read, space: &mut [u8]) -> bool {
     if bytes > space.len() {
         return false;
     }
-    files::read_full(from, &mut space[0..bytes]);
+    reading::read_full(from, &mut space[0..bytes]);
     line(rt, &space[0..bytes], credentials);
     true
 }
@@ -42,7 +42,7 @@ fn answered(rt: &impl Print, from: &mut impl Read, space: &mut [u8]) -> bool {
 // The next byte; 0 at the end of the input.
 fn byte(from: &mut impl Read) -> u8 {
     let mut bytes = [0u8; 1];
-    files::read_full(from, &mut bytes);
+    reading::read_full(from, &mut bytes);
     bytes[0]
 }
 
@@ -73,7 +73,7 @@ fn counts<'a>(rt: &impl Print, policy: &'a [u8], levels: &'a [u8; 64], credentia
     let starts = access_rules(policy, levels, &mut heads, &mut positive, &mut negated);
     let shown = AtomSet::credentials(credentials);
     access::closed(rt, &heads, &positive, &negated, &starts, shown);
-    disclosing::closed(rt, policy, shown);
+    disclosure::closed(rt, policy, shown);
     together::closed(rt, &heads, &positive, &negated, &starts, credentials);
     print::text(rt, b"\n");
 }

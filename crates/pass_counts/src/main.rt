@@ -3,7 +3,7 @@
 
 mod access;
 mod case;
-mod disclosing;
+mod disclosure;
 mod print;
 mod start;
 mod together;

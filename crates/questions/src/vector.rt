@@ -14,7 +14,7 @@ pub(crate) fn run(rt: &impl Print, from: &mut impl Read, place: u64, space: &mut
     if bytes > space.len() {
         return false;
     }
-    files::read_full(from, &mut space[0..bytes]);
+    reading::read_full(from, &mut space[0..bytes]);
     print::start(rt, place, request, shows);
     first_round(rt, &space[0..bytes], request, shows);
     true
@@ -23,7 +23,7 @@ pub(crate) fn run(rt: &impl Print, from: &mut impl Read, place: u64, space: &mut
 // The next number, two bytes, little-endian; 0 at the end of the input.
 fn number(from: &mut impl Read) -> u16 {
     let mut bytes = [0u8; 2];
-    files::read_full(from, &mut bytes);
+    reading::read_full(from, &mut bytes);
     joined(bytes[0], bytes[1])
 }
 

@@ -48,7 +48,7 @@ fn step(
     reader: Reader,
 ) -> Next {
     let mut byte = [0u8; 1];
-    if reader.ended() || files::read_full(input, &mut byte) != 1 {
+    if reader.ended() || reading::read_full(input, &mut byte) != 1 {
         return Next::End;
     }
     let step = reader.next(policy, byte[0]);

@@ -31,8 +31,8 @@ pub(crate) fn run(
     if bytes > table.len() {
         return false;
     }
-    files::read_full(from, &mut space[0..end]);
-    files::read_full(from, &mut table[0..bytes]);
+    reading::read_full(from, &mut space[0..end]);
+    reading::read_full(from, &mut table[0..bytes]);
     line(rt, start, asked, &space[0..end], &mut table[0..bytes]);
     true
 }

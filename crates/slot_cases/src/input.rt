@@ -23,7 +23,7 @@ pub(crate) fn next(from: &mut impl Read) -> Asked {
 // The next number of two bytes; 0 at the end of the input.
 pub(crate) fn number(from: &mut impl Read) -> u16 {
     let mut bytes = [0u8; 2];
-    files::read_full(from, &mut bytes);
+    reading::read_full(from, &mut bytes);
     joined(bytes[0], bytes[1])
 }
 
@@ -34,7 +34,7 @@ fn joined(low: u8, high: u8) -> u16 {
 
 fn byte(from: &mut impl Read) -> u8 {
     let mut bytes = [0u8; 1];
-    files::read_full(from, &mut bytes);
+    reading::read_full(from, &mut bytes);
     bytes[0]
 }
 

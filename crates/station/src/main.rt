@@ -21,7 +21,7 @@ fn run(rt: &impl Print, input: &mut impl Read, policy: &[u8]) {
     let mut left = u64::MAX;
     while left > 0 {
         let mut bytes = [0u8; RECORD_BYTES];
-        if files::read_full(input, &mut bytes) != RECORD_BYTES {
+        if reading::read_full(input, &mut bytes) != RECORD_BYTES {
             return;
         }
         let step = record(slots, policy, bytes);

@@ -28,6 +28,7 @@ pub(crate) fn slot_at(table: &[u8], k: usize) -> Found
 }
 
 // Of twelve bytes.
+#[tactic(auto, using(validation::proofs::TestLaws::true_eqb), unfolding(slot_packing::specs::PackedSlots::unpacked_slot))]
 fn unpack_slot(bytes: &[u8]) -> Found
     requires { length bytes.now ≡ 12 }
     ensures { found_of result ≡ unpacked_slot bytes.now }

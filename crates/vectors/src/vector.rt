@@ -12,7 +12,7 @@ const MOST_BYTES: usize = 2286;
 // Reads a vector and prints its line; false if there is no whole vector left, or too large a one.
 pub(crate) fn run(rt: &impl Print, from: &mut impl Read, number: u64) -> bool {
     let mut start = [0u8; 3];
-    let got = files::read_full(from, &mut start);
+    let got = reading::read_full(from, &mut start);
     if got < 3 {
         return false;
     }
@@ -47,7 +47,7 @@ fn policy(
 // Reads so many bytes; false if there is no room for them or the input ends.
 fn fill(from: &mut impl Read, space: &mut [u8], bytes: usize) -> bool {
     if bytes <= space.len() {
-        let got = files::read_full(from, &mut space[0..bytes]);
+        let got = reading::read_full(from, &mut space[0..bytes]);
         got == bytes
     } else {
         false
