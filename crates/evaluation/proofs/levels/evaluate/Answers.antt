@@ -1,7 +1,7 @@
 -- `evaluation::levels::evaluate` meets its contract. The loop's invariant: what is left of the levels makes of the set what all of them make of the
 -- credentials. Assumes nothing.
 use mathlib.Core.Path.{◌≡◌, refl, subst, sym}
-use Prim.Native.Nat.{◌+◌, ◌-◌, ◌<◌, ℕ}
+use Prim.Native.Nat.{◌+◌, ◌-◌, ℕ}
 use lib.ListN.{get_or}
 use native.Mathlib.Omega.{arith}
 use Rattle.rules.specs.LevelByLevel.{settle}
@@ -15,54 +15,30 @@ pub loop-from-init : goal.loop-from-init
 loop-from-init c = (reached_first level_count _ _ refl, refl)
 
 pub overflow_add-to : goal.overflow_add-to
-overflow_add-to c =
-    let more : c.loop-from.level < level_count =
-    let l = c.loop-from in
-    reached_more level_count c.args.starts.now l.level l.from l.invariant.0 c.loop-from-test.true in
-    omega (arith, more)
+overflow_add-to c = omega (arith, reached_more level_count _ _ _ c.loop-from.invariant.0 c.loop-from-test.true)
 
 pub offset_bounds-starts-level : goal.offset_bounds-starts-level
-offset_bounds-starts-level c =
-    let more : c.loop-from.level < level_count =
-    let l = c.loop-from in
-    reached_more level_count c.args.starts.now l.level l.from l.invariant.0 c.loop-from-test.true in
-    omega (arith, more)
+offset_bounds-starts-level c = omega (arith, reached_more level_count _ _ _ c.loop-from.invariant.0 c.loop-from-test.true)
 
 pub bounds-starts-level : goal.bounds-starts-level
-bounds-starts-level c =
-    let more : c.loop-from.level < level_count =
-    let l = c.loop-from in
-    reached_more level_count c.args.starts.now l.level l.from l.invariant.0 c.loop-from-test.true in
-    omega (arith, more)
+bounds-starts-level c = omega (arith, reached_more level_count _ _ _ c.loop-from.invariant.0 c.loop-from-test.true)
 
 pub close-set-requires : goal.close-set-requires
 close-set-requires c =
-    let more : c.loop-from.level < level_count =
-    let l = c.loop-from in
-    reached_more level_count c.args.starts.now l.level l.from l.invariant.0 c.loop-from-test.true in
+    let more = reached_more level_count _ _ _ c.loop-from.invariant.0 c.loop-from-test.true in
     let l = c.loop-from in
     subst (λ (x : ℕ). Span x (get_or c.args.starts.now (l.level + 1) 0) c.args.heads.now) (sym l.invariant.0.here)
     (level_places level_count c.args.heads.now c.args.starts.now c.requires l.level more)
 
 pub overflow_add-level : goal.overflow_add-level
-overflow_add-level c =
-    let more : c.loop-from.level < level_count =
-    let l = c.loop-from in
-    reached_more level_count c.args.starts.now l.level l.from l.invariant.0 c.loop-from-test.true in
-    omega (arith, more)
+overflow_add-level c = omega (arith, reached_more level_count _ _ _ c.loop-from.invariant.0 c.loop-from-test.true)
 
 pub loop-from-smaller : goal.loop-from-smaller
-loop-from-smaller c =
-    let more : c.loop-from.level < level_count =
-    let l = c.loop-from in
-    reached_more level_count c.args.starts.now l.level l.from l.invariant.0 c.loop-from-test.true in
-    omega (arith, more)
+loop-from-smaller c = omega (arith, reached_more level_count _ _ _ c.loop-from.invariant.0 c.loop-from-test.true)
 
 pub loop-from-preserved : goal.loop-from-preserved
 loop-from-preserved c =
-    let more : c.loop-from.level < level_count =
-    let l = c.loop-from in
-    reached_more level_count c.args.starts.now l.level l.from l.invariant.0 c.loop-from-test.true in
+    let more = reached_more level_count _ _ _ c.loop-from.invariant.0 c.loop-from-test.true in
     let a = c.args in
     let l = c.loop-from in
     let starts = a.starts.now in

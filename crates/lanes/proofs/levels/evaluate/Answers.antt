@@ -13,8 +13,8 @@ close-fixpoint-requires-clause-fact_1 c =
     let l = c.loop-from in
     let more : l.level < level_count = reached_more level_count c.args.starts.now l.level l.from l.invariant.0 c.loop-from-test.true in
     let here =
-    subst (λ (x : ℕ). Span x (get_or c.args.starts.now (l.level + 1) 0) c.args.heads.now) (sym l.invariant.0.here)
-    (level_places level_count c.args.heads.now c.args.starts.now c.requires.fact_1.0 l.level more) in
+        subst (λ (x : ℕ). Span x (get_or c.args.starts.now (l.level + 1) 0) c.args.heads.now) (sym l.invariant.0.here)
+        (level_places level_count c.args.heads.now c.args.starts.now c.requires.fact_1.0 l.level more) in
     (here, l.invariant.1.long)
 
 pub loop-from-preserved : goal.loop-from-preserved

@@ -10,15 +10,13 @@ use Rattle.slot_steps.proofs.round.slot_round.Goals as goal
 
 pub returns-in_default : goal.returns-in_default
 returns-in_default c =
-    let typed : (let a = c.args in Typed a.policy.now (slot_of a.slot) (move_of a.taken)) =
     let a = c.args in
     let g = c.well_formed in
-    record {
+    let typed : Typed a.policy.now (slot_of a.slot) (move_of a.taken) = record {
       policy = slice_bytes a.policy.now c.type_inv.policy;
       slot = slot_fits a.slot _ g.0;
       shows = omega (arith, g.1.1.0);
-    } in
-    let a = c.args in (
+    } in (
       vacant_round a.policy.now (slot_of a.slot) (move_of a.taken) (answer_of c.refused_by-answer.result)
           (ap holding_of c.in_default.is) (by_number a.policy.now 8 _ c.refused_by-answer.ensures.0),
       typed,
@@ -26,15 +24,13 @@ returns-in_default c =
 
 pub returns : goal.returns
 returns c =
-    let typed : (let a = c.args in Typed a.policy.now (slot_of a.slot) (move_of a.taken)) =
     let a = c.args in
     let g = c.well_formed in
-    record {
+    let typed : Typed a.policy.now (slot_of a.slot) (move_of a.taken) = record {
       policy = slice_bytes a.policy.now c.type_inv.policy;
       slot = slot_fits a.slot _ g.0;
       shows = omega (arith, g.1.1.0);
-    } in
-    let a = c.args in (
+    } in (
       c.turn_of.ensures
           ∙ held_round a.policy.now (slot_of a.slot) (move_of a.taken) _ _ (outcome_of c.round.result)
           (ap holding_of c.in-Held.is) c.round.ensures.answer,
