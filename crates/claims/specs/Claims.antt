@@ -59,9 +59,9 @@
 -- and the cases of the types among them, and the maps from the program's types (specs/Types of records, policy, disclosure, model, search, question,
 -- session, slot_steps, slot_preview, occupancy, station_table, replay, entries, log_comparison and recorder; specs/Steps of console). What a word computes is no
 -- matter of belief where a theorem here says what it gives: the operations on sets, the closure, the model, the disclosable set, the tests, the
--- preferred question, the sets shown and declined, the digits. That lent bytes are not written stands in the contract of each function that a host or a
--- client calls, demands 1 and 2 of each call in those of `open`, `round`, `open_at`, `round_at` and `preview_at`, demand 3 of a whole list in that of
--- `replay`, and that an event's line says its text in that of `of_event`. Assumes nothing.
+-- preferred question, the sets shown and declined, the digits. That bytes lent for reading are not written says the type of the parameter, `&`, in each
+-- function that a host or a client calls. Demands 1 and 2 of each call stand in the contracts of `open`, `round`, `open_at`, `round_at` and `preview_at`,
+-- demand 3 of a whole list in that of `replay`, and that an event's line says its text in that of `of_event`. Assumes nothing.
 use Rattle.std.specs.Prelude.{◌≡◌, List, ◌<◌, ◌^◌, ℕ}
 use Rattle.encoding.specs.LittleEndian.{Bytes}
 use Rattle.encoding.specs.Theorems as encoding

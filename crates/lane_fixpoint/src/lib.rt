@@ -32,8 +32,8 @@ pub fn close<'a>(
     to: usize,
     possible: u64,
 ) -> Fixpoint
-    requires fact_1 { Span from to heads.now × (length table.old ≡ 768) }
-    requires fact_2 { Covers possible table.old }
+    requires placed { Span from to heads.now × (length table.old ≡ 768) }
+    requires covered { Covers possible table.old }
     ensures level { LevelClosed heads.now positive.now negated.now from (to - from) table.old table.new
         result.possible }
     ensures passes { result.passes ≡ lane_pass_count (rules_in heads.now positive.now negated.now from (to - from)) table.old }

@@ -26,8 +26,8 @@ pub fn pass<'a>(
     delta: u64,
     initial: u64,
 ) -> Progress
-    requires fact_1 { Span from to heads.now × (length table.old ≡ 768) }
-    requires fact_2 { Covers possible table.old × Stale heads.now positive.now from to delta initial table.old }
+    requires placed { Span from to heads.now × (length table.old ≡ 768) }
+    requires covered { Covers possible table.old × Stale heads.now positive.now from to delta initial table.old }
     ensures { Passed heads.now positive.now from (to - from) table.old table.new result }
 {
     let mut progress = Progress { possible, added: 0 };
@@ -52,8 +52,8 @@ fn step(
     initial: u64,
     progress: Progress,
 ) -> Progress
-    requires fact_1 { Fireable k head table.old }
-    requires fact_2 { Covers progress.possible table.old
+    requires fireable { Fireable k head table.old }
+    requires covered { Covers progress.possible table.old
         × (initial ≡ 0 → bit_and positive (bit_or delta progress.added) ≡ 0 → Satisfied k head positive table.old) }
     ensures { Stepped k head positive progress result table.old table.new }
 {

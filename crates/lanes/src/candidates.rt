@@ -29,8 +29,8 @@ pub fn switch<'a>(
     b: usize,
     possible: u64,
 ) -> u64
-    requires fact_1 { Members members.now count × (length table.old ≡ 768) }
-    requires fact_2 { Covers possible table.old }
+    requires placed { Members members.now count × (length table.old ≡ 768) }
+    requires covered { Covers possible table.old }
     ensures { Switched members.now count b table.old table.new × Covers result table.new }
 {
     let mut reached = possible;

@@ -15,8 +15,8 @@ pub fn evaluate<'a>(
     starts: &'a Starts,
     possible: u64,
 )
-    requires fact_1 { Placed level_count heads.now starts.now × (length table.old ≡ 768) }
-    requires fact_2 { Covers possible table.old }
+    requires placed { Placed level_count heads.now starts.now × (length table.old ≡ 768) }
+    requires covered { Covers possible table.old }
     ensures { Evaluated level_count heads.now positive.now negated.now starts.now
         table.old table.new }
 {

@@ -18,7 +18,7 @@ abbrev pub left_by : Call → List Slot
 left_by (operates c) = T.left_by c
 left_by (previewing_at bytes i m v ys) = ys
 
--- what the contract says of a call on the list xs
+-- what the contract says of a call on the list xs; that a preview leaves the list says the type of `slots`, lent for reading
 abbrev pub Kept : List Slot → Call → Type 0
 Kept xs (operates c) = T.Kept xs c
 Kept xs (previewing_at bytes i m v ys) = (preview_of v ≡ preview_at bytes (table_of xs) i (move_of m)) × (ys ≡ xs)

@@ -26,12 +26,12 @@ returns-then-next-reached c = let a = c.args in
     let p = c.pass-next in
     let rs = rules_in a.heads.now a.positive.now a.negated.now a.from (a.to - a.from) in
     let closed =
-        running_last 1 (λ _. pass_over a.set.bits rs) (λ _. a.set.bits) (heads_of rs) (heads_atoms rs) (λ _ _. over_adding a.set.bits rs)
-        (λ _. l.reached.bits) (λ _. p.result.bits) l.passes l.invariant (λ _ _. p.ensures) (λ _ _. c.if-next-reached.true) in
+    running_last 1 (λ _. pass_over a.set.bits rs) (λ _. a.set.bits) (heads_of rs) (heads_atoms rs) (λ _ _. over_adding a.set.bits rs)
+    (λ _. l.reached.bits) (λ _. p.result.bits) l.passes l.invariant (λ _ _. p.ensures) (λ _ _. c.if-next-reached.true) in
     record {
-        set = closed_settle 1 rs (λ _. a.set.bits) (heads_of rs) (λ _. p.result.bits) _ closed 0 (omega arith);
-        passes = rules_passes rs a.set.bits p.result.bits _ closed;
-        count = closed;
+      set = closed_settle 1 rs (λ _. a.set.bits) (heads_of rs) (λ _. p.result.bits) _ closed 0 (omega arith);
+      passes = rules_passes rs a.set.bits p.result.bits _ closed;
+      count = closed;
     }
 
 pub loop-reached-preserved : goal.loop-reached-preserved

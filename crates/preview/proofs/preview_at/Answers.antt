@@ -16,14 +16,14 @@ pub returns-then-slot-end : goal.returns-then-slot-end
 returns-then-slot-end c =
     let a = c.args in
     let met =
-        preview_inside a.policy.now a.slots.now a.slot (move_of a.taken) (preview_of c.slot_preview.result)
-        (subst (λ (n : ℕ). a.slot < n) c.slots_in-end.ensures c.if-slot-end.true) c.slot_preview.ensures.gives in
+    preview_inside a.policy.now a.slots.now a.slot (move_of a.taken) (preview_of c.slot_preview.result)
+    (subst (λ (n : ℕ). a.slot < n) c.slots_in-end.ensures c.if-slot-end.true) c.slot_preview.ensures.gives in
     record { answer = met.0; meaning = met.1; left = refl; unchanged = refl }
 
 pub returns-else-slot-end : goal.returns-else-slot-end
 returns-else-slot-end c =
     let a = c.args in
     let met =
-        preview_beyond a.policy.now a.slots.now a.slot (move_of a.taken) (preview_of c.preview_past.result)
-        (subst (λ (n : ℕ). n ≤ a.slot) c.slots_in-end.ensures c.if-slot-end.false) c.preview_past.ensures.gives in
+    preview_beyond a.policy.now a.slots.now a.slot (move_of a.taken) (preview_of c.preview_past.result)
+    (subst (λ (n : ℕ). n ≤ a.slot) c.slots_in-end.ensures c.if-slot-end.false) c.preview_past.ensures.gives in
     record { answer = met.0; meaning = met.1; left = refl; unchanged = refl }

@@ -32,16 +32,16 @@ returns-then-slot-reach c =
     let elem = get_or ys a.slot empty_slot in
     let r = c.slot_open-opening.result in
     let met =
-        open_inside ys a.slot a.owner a.request (opens_of r.answer) r.slot (subst (λ (n : ℕ). a.slot < n) c.slots_in-reach.ensures c.if-slot-reach.true)
-        (c.slot_open-opening.ensures
-        ∙ ap (λ (k : ℕ). open_slot (slot_of elem) k a.owner a.request)
-        (c.owned-count.ensures ∙ ap (unfinished a.owner (table_of ys)) c.slots_in-reach.ensures)) in
+    open_inside ys a.slot a.owner a.request (opens_of r.answer) r.slot (subst (λ (n : ℕ). a.slot < n) c.slots_in-reach.ensures c.if-slot-reach.true)
+    (c.slot_open-opening.ensures
+    ∙ ap (λ (k : ℕ). open_slot (slot_of elem) k a.owner a.request)
+    (c.owned-count.ensures ∙ ap (unfinished a.owner (table_of ys)) c.slots_in-reach.ensures)) in
     record { answer = met.0; table = met.1.0; meaning = met.1.1 }
 
 pub returns-else-slot-reach : goal.returns-else-slot-reach
 returns-else-slot-reach c =
     let a = c.args in
     let met =
-        open_beyond a.slots.now a.slot a.owner a.request (opens_of c.open_past.result)
-        (subst (λ (n : ℕ). n ≤ a.slot) c.slots_in-reach.ensures c.if-slot-reach.false) c.open_past.ensures in
+    open_beyond a.slots.now a.slot a.owner a.request (opens_of c.open_past.result)
+    (subst (λ (n : ℕ). n ≤ a.slot) c.slots_in-reach.ensures c.if-slot-reach.false) c.open_past.ensures in
     record { answer = met.0; table = met.1.0; meaning = met.1.1 }

@@ -6,8 +6,8 @@ use Rattle.lanes.proofs.blocks.block.Goals as goal
 pub fill-requires : goal.fill-requires
 fill-requires c = (refl, zeros 768)
 
-pub switch-possible-requires-clause-fact_2 : goal.switch-possible-requires-clause-fact_2
-switch-possible-requires-clause-fact_2 c = covers_base _ _ c.fill.ensures.1
+pub switch-possible-requires-clause-covered : goal.switch-possible-requires-clause-covered
+switch-possible-requires-clause-covered c = covers_base _ _ c.fill.ensures.1
 
 pub returns : goal.returns
 returns c =

@@ -3,11 +3,11 @@ use Rattle.lanes.proofs.SwitchingLaws.{noted_next, switching_first, switching_ne
 use Rattle.lanes.proofs.candidates.switch.Goals as goal
 
 pub loop-j-init : goal.loop-j-init
-loop-j-init c = record { low = omega arith; done = switching_first _ _ _ c.requires.fact_1.1; covers = c.requires.fact_2 }
+loop-j-init c = record { low = omega arith; done = switching_first _ _ _ c.requires.placed.1; covers = c.requires.covered }
 
 pub loop-j-preserved : goal.loop-j-preserved
 loop-j-preserved c =
-    let one = c.requires.fact_1.0.1 c.loop-j.j (omega arith) in
+    let one = c.requires.placed.0.1 c.loop-j.j (omega arith) in
     let old = c.load-old.ensures in
     let which = c.takers.ensures in
     let row = c.symmetric_difference-row.ensures in

@@ -8,7 +8,7 @@ use Rattle.levels.proofs.layers.layered.Goals as goal
 pub loop-walk-init : goal.loop-walk-init
 loop-walk-init c =
     let small : c.args.heads.bits < 2 ^ 64 =
-        omega arith in
+    omega arith in
     walking_first _ _ c.requires small refl refl _ c.difference.ensures
 
 pub offset_bounds-under-depth : goal.offset_bounds-under-depth

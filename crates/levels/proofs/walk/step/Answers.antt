@@ -31,15 +31,15 @@ pub enter-requires-then-open-ne0 : goal.enter-requires-then-open-ne0
 enter-requires-then-open-ne0 c =
     let v = c.requires.0 in
     let more =
-        some_left c.args.walk.fresh.bits c.intersection-open.result.bits v.small
-        (λ k j. ((intersection_iff c.difference-outside.result.bits c.args.walk.fresh.bits k).0 (subst (Member k) c.intersection-open.ensures j)).1)
-        c.if-open-ne0.true in
+    some_left c.args.walk.fresh.bits c.intersection-open.result.bits v.small
+    (λ k j. ((intersection_iff c.difference-outside.result.bits c.args.walk.fresh.bits k).0 (subst (Member k) c.intersection-open.ensures j)).1)
+    c.if-open-ne0.true in
     (v.places, (omega (arith, v.room, v.some, more), c.if-open-ne0.true))
 
 pub returns-then-open-ne0 : goal.returns-then-open-ne0
 returns-then-open-ne0 c =
     let among : (k : ℕ) → Member k c.intersection-open.result.bits → Member k c.difference-outside.result.bits × Member k c.args.walk.fresh.bits =
-        (λ k j. (intersection_iff c.difference-outside.result.bits c.args.walk.fresh.bits k).0 (subst (Member k) c.intersection-open.ensures j)) in
+    (λ k j. (intersection_iff c.difference-outside.result.bits c.args.walk.fresh.bits k).0 (subst (Member k) c.intersection-open.ensures j)) in
     entered_step c.args.rows.now c.args.under.now c.args.of.now c.args.at.now c.args.walk c.requires.0
     c.intersection-open.result.bits _ _ c.enter-then-open-ne0.ensures (λ k j. (among k j).1)
     (λ k j. needed_by_all c.args.rows.now c.args.under.now c.args.of.now c.args.at.now c.args.walk c.requires.0 c.if-depth-eq0.false

@@ -28,7 +28,7 @@ close-fixpoint-requires g c =
     let here =
     subst (λ (x : ℕ). Span x (get_or c.args.starts.now (l.level + 1) 0) c.args.heads.now) (sym l.invariant.0.here)
     (level_places level_count c.args.heads.now c.args.starts.now c.requires.0 l.level more) in
-    record { fact_1 = (here, l.invariant.1); fact_2 = covers_all _ }
+    record { placed = (here, l.invariant.1); covered = covers_all _ }
 
 pub overflow_add-level : goal.overflow_add-level
 overflow_add-level g c = omega (arith, reached_more level_count _ _ _ c.loop-from.invariant.0 c.loop-from-test.true)
