@@ -1,4 +1,4 @@
-/* The station gate for C. Link target/staticlib/libcapi.a, which `scripts/build capi` makes for x86-64; beside it a program
+/* The station gate for C. Link target/staticlib/libcapi.a, which `scripts/build capi` makes for x86-64-v2; beside it a program
  * needs only memcpy and memset.
  *
  * Each function's reply, and what it leaves in the memory that it is lent, is proved for every input (contracts in
