@@ -1,10 +1,9 @@
 -- The lowest atom of a set, and the set without it. Assumes nothing.
-use mathlib.Core.Path.{◌∙◌, ◌≡◌, ap, refl, subst, sym}
-use mathlib.Core.Logic.{◌≢◌, ◌⊎◌, inl, inr}
+use mathlib.Core.Path.{◌∙◌, ◌≡◌, ap, refl, sym}
+use mathlib.Core.Logic.{◌≢◌}
 use Prim.Native.Nat.{◌%◌, ◌*◌, ◌-◌, ◌/◌, ◌<◌, ◌^◌, suc, zero, ℕ}
-use lib.Bits.{and_le_r, and_self, and_step, bit_and}
+use lib.Bits.{and_self, and_step, bit_and}
 use lib.Count.{count_trailing_zeros, under}
-use native.Mathlib.Decide.{ℕ_discrete}
 use native.Mathlib.Nat.{pow-suc}
 use native.Mathlib.Omega.{arith}
 use Rattle.atoms.specs.Sets.{Member, bit}
@@ -84,23 +83,3 @@ module _ (m : ℕ) (some : m ≢ 0) (small : m < 2 ^ 64) where
   pub lowest_fits : count_trailing_zeros 64 m < 64
   unfolding t
   lowest_fits = member_low m 64 t small low.has
-
-  pub rest_less : bit_and m (m - 1) < m
-  rest_less = omega (arith, and_le_r m (m - 1))
-
-  -- an atom of m is the lowest, or one of the rest
-  pub lowest_or_rest : (k : ℕ) → Member k m → (k ≡ count_trailing_zeros 64 m) ⊎ Member k (bit_and m (m - 1))
-  unfolding t without
-  lowest_or_rest k i = go (ℕ_discrete t k)
-    where
-      go : Dec (t ≡ k) → (k ≡ t) ⊎ Member k (without m)
-      go (yes e) = inl (sym e)
-      go (no n) = inr (low.rest k n ∙ i)
-
-  pub rest_in : (k : ℕ) → Member k (bit_and m (m - 1)) → Member k m
-  unfolding t without
-  rest_in k i = go (ℕ_discrete t k)
-    where
-      go : Dec (t ≡ k) → Member k m
-      go (yes e) = subst (λ (x : ℕ). Member x m) e low.has
-      go (no n) = sym (low.rest k n) ∙ i

@@ -8,6 +8,7 @@ use Rattle.validation.proofs.TestLaws.{eqb_true, true_eqb}
 use Rattle.atoms.specs.Atoms.{violation}
 use Rattle.atoms.specs.Meaning.{Meaning}
 use Rattle.atoms.specs.Sets.{Member, bit, single, union}
+use Rattle.atoms.proofs.ListedLaws.{listed_iff, rising}
 use Rattle.atoms.proofs.SetLaws.{difference_iff, disjoint_true, intersection_iff, member_low, none_in_empty, set_of-iff, single_cases, single_own, subset_antisym, subset_true, true_disjoint, true_subset, union_cases, union_left, union_right}
 use Rattle.atoms.proofs.SizeLaws.{low_lt, size_is, size_le, size_same}
 
@@ -41,6 +42,8 @@ meaning = record {
   members = λ k s. (eqb_true (bit s k) 1, true_eqb);
   subsets = λ a b. (subset_true a b, true_subset a b);
   disjoints = λ a b. (disjoint_true a b, true_disjoint a b);
+  listed = listed_iff;
+  rising = rising;
   sizes = size_is;
   grows = size_le;
   equals = size_same;

@@ -5,13 +5,12 @@ use mathlib.Core.Bool.{Bool, cond, false, true}
 use mathlib.Core.List.{List, [], ◌∷◌}
 use Prim.Native.Nat.{◌%◌, ◌*◌, ◌+◌, ◌-◌, ◌/◌, ◌<◌, ◌^◌, ◌≤◌, max, min, suc, zero, ℕ}
 use lib.Arith.{bin_ind, half_le}
-use lib.Bits.{and_le_l, and_shr, and_step, bit_and, bit_or, or_shr, or_step}
+use lib.Bits.{and_le_l, and_step, bit_and}
 use lib.Dec.{leb, leb→le}
-use lib.Pow.{pow_mono, pow_pos, shr-shr}
+use lib.Pow.{pow_pos}
 use native.Mathlib.Decide.{dec_lt, ℕ_discrete}
-use native.Mathlib.Nat.{div-eq_of_lt, div-one, le_of_suc-le-suc, lt_of_lt_of_le, mod-lt, not-suc-le-zero, zero-div, zero-lt-suc}
-use native.Mathlib.Numerals.{one-add}
 use native.Mathlib.Omega.{arith}
+use Rattle.std.proofs.lemmas.Nat.Bits.{bit_at-lt, bit_at-pow_other, bit_at-pow_same, bit_at-suc, bit_at-zero, bit_at_above, bit_at_and, bit_at_lowest, bit_at_ones, bit_at_or}
 use Rattle.lists.specs.Lists.{Every, OneOf}
 use borrow.Author.Tests.{eqb-false}
 use Rattle.validation.proofs.TestLaws.{eqb_true, le_true, true_T, true_eqb}
@@ -21,28 +20,22 @@ use Rattle.atoms.specs.Sets.{Member, Subset, bit, difference, disjoint, intersec
 -- ---- one bit
 
 pub bit_lt : (s k : ℕ) → bit s k < 2
-bit_lt s k = mod-lt (s / 2 ^ k) (zero-lt-suc 1)
+bit_lt = bit_at-lt
 
 pub bit_empty : (k : ℕ) → bit 0 k ≡ 0
-bit_empty k = ap (λ (x : ℕ). x % 2) (zero-div (2 ^ k))
+bit_empty = bit_at-zero
 
 pub bit_first : (s : ℕ) → bit s 0 ≡ s % 2
-bit_first s = ap (λ (x : ℕ). x % 2) (div-one s)
+bit_first = bit_at_lowest
 
 pub bit_next : (s k : ℕ) → bit s (suc k) ≡ bit (s / 2) k
-bit_next s k = ap (λ (x : ℕ). s / 2 ^ x % 2) (sym (one-add k)) ∙ ap (λ (x : ℕ). x % 2) (sym (shr-shr s 1 k))
-
-or_odd : (a b : ℕ) → bit_or a b % 2 ≡ max (a % 2) (b % 2)
-or_odd a b = omega (arith, or_step a b)
+bit_next = bit_at-suc
 
 pub bit_union : (a b k : ℕ) → bit (union a b) k ≡ max (bit a k) (bit b k)
-bit_union a b k = ap (λ (x : ℕ). x % 2) (or_shr a b k) ∙ or_odd (a / 2 ^ k) (b / 2 ^ k)
-
-and_odd : (a b : ℕ) → bit_and a b % 2 ≡ min (a % 2) (b % 2)
-and_odd a b = omega (arith, and_step a b)
+bit_union = bit_at_or
 
 pub bit_intersection : (a b k : ℕ) → bit (intersection a b) k ≡ min (bit a k) (bit b k)
-bit_intersection a b k = ap (λ (x : ℕ). x % 2) (and_shr a b k) ∙ and_odd (a / 2 ^ k) (b / 2 ^ k)
+bit_intersection = bit_at_and
 
 difference_half : (a b : ℕ) → difference a b / 2 ≡ difference (a / 2) (b / 2)
 difference_half a b = omega (arith, and_step a b, and_le_l (a / 2) (b / 2))
@@ -62,24 +55,16 @@ bit_difference a b (suc k) =
     bit_next (difference a b) k ∙ ap (λ (x : ℕ). bit x k) (difference_half a b) ∙ omega (arith, ih, bit_next a k, bit_next b k)
 
 -- the power of two that stands for one atom
-half_power : (h : ℕ) → 2 ^ suc h / 2 ≡ 2 ^ h
-half_power h = omega arith
-
 pub bit_one : (h : ℕ) → bit (2 ^ h) h ≡ 1
-bit_one zero = refl
-bit_one (suc h) = bit_next (2 ^ suc h) h ∙ ap (λ (x : ℕ). bit x h) (half_power h) ∙ bit_one h
+bit_one = bit_at-pow_same
 
 bit_other : (h k : ℕ) → h ≢ k → bit (2 ^ h) k ≡ 0
-bit_other zero zero n = absurd (n refl)
-bit_other zero (suc k) n = bit_next 1 k ∙ bit_empty k
-bit_other (suc h) zero n = bit_first (2 ^ suc h) ∙ omega arith
-bit_other (suc h) (suc k) n =
-    bit_next (2 ^ suc h) k ∙ ap (λ (x : ℕ). bit x k) (half_power h) ∙ bit_other h k (λ e. n (ap suc e))
+bit_other h k n = bit_at-pow_other h k (λ e. n (sym e))
 
 -- ---- sets of atoms below n
 
 pub bit_high : (s n k : ℕ) → s < 2 ^ n → n ≤ k → bit s k ≡ 0
-bit_high s n k h l = ap (λ (x : ℕ). x % 2) (div-eq_of_lt (lt_of_lt_of_le h (pow_mono l)))
+bit_high = bit_at_above
 
 pub member_low : (s n k : ℕ) → s < 2 ^ n → Member k s → k < n
 member_low s n k h m = go (dec_lt k n)
@@ -89,15 +74,8 @@ member_low s n k h m = go (dec_lt k n)
     go (no g) = let z : bit s k ≡ 0 = bit_high s n k h (omega arith) in omega arith
 
 -- the set of the n lowest atoms
-lowest_bit : (n k : ℕ) → k < n → bit (2 ^ n - 1) k ≡ 1
-lowest_bit zero k l = absurd (not-suc-le-zero l)
-lowest_bit (suc n) zero l = bit_first (2 ^ suc n - 1) ∙ omega (arith, pow_pos n)
-lowest_bit (suc n) (suc k) l =
-    let half : (2 ^ suc n - 1) / 2 ≡ 2 ^ n - 1 = omega (arith, pow_pos n) in
-    bit_next (2 ^ suc n - 1) k ∙ ap (λ (x : ℕ). bit x k) half ∙ lowest_bit n k (le_of_suc-le-suc l)
-
 pub member_lowest : (n k : ℕ) → Member k (2 ^ n - 1) ↔ (k < n)
-member_lowest n k = (member_low (2 ^ n - 1) n k (omega (arith, pow_pos n)), lowest_bit n k)
+member_lowest n k = (member_low (2 ^ n - 1) n k (omega (arith, pow_pos n)), bit_at_ones n k)
 
 -- ---- two sets with the same atoms are the same number
 

@@ -1,5 +1,6 @@
 -- Document 01, "Atoms and records": sets of atoms as numbers. specs/Meaning says what each operation means, atom by atom. Assumes nothing.
-use Rattle.std.specs.Prelude.{◌≡◌, Bool, cond, List, [], ◌∷◌, ◌%◌, ◌-◌, ◌/◌, ◌^◌, ℕ, eqb, leb}
+use Rattle.std.specs.Prelude.{◌≡◌, Bool, cond, List, [], ◌∷◌, ◌%◌, ◌-◌, ◌/◌, ◌^◌, ℕ, eqb, filter, leb}
+use Rattle.std.specs.List.{range_with_len}
 use Rattle.std.specs.Int.Bits.{bit_and, bit_or}
 use Rattle.std.specs.Int.Count.{ones_in}
 use Rattle.atoms.specs.Atoms.{violation}
@@ -51,3 +52,7 @@ size s = ones_in 64 s
 unfoldable pub set_of : List ℕ → ℕ
 set_of [] = empty
 set_of (k ∷ ks) = union (single k) (set_of ks)
+
+-- the atoms of a set, rising
+unfoldable pub atoms_of : ℕ → List ℕ
+atoms_of s = filter (λ k. member k s) (range_with_len 0 64)

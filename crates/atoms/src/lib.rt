@@ -2,7 +2,8 @@
 #![tactic(auto)]
 
 ghost use Rattle.std.specs.Prelude.{◌≡◌};
-ghost use Rattle.atoms.specs.Sets.{difference, disjoint, intersection, member, single, size, subset, union};
+ghost use Rattle.std.specs.Iterator.{YieldsFirst, item_count};
+ghost use Rattle.atoms.specs.Sets.{atoms_of, difference, disjoint, intersection, member, single, size, subset, union};
 
 // Atoms 0 to 15 are credentials, 16 to 62 derived.
 pub const LAST_CREDENTIAL: u8 = 15;
@@ -14,7 +15,7 @@ pub const LAST_DERIVED: u8 = 62;
 pub const VIOLATION: u8 = 63;
 
 // A set of atoms: bit k stands for atom k.
-#[derive(Clone, Copy)]
+#[derive(Clone, Copy, PartialEq, Eq)]
 pub struct AtomSet {
     pub bits: u64,
 }
@@ -37,7 +38,9 @@ impl AtomSet {
     pub fn credentials(set: u16) -> AtomSet
         ensures { result.bits ≡ set }
     {
-        AtomSet { bits: set as u64 }
+        AtomSet {
+            bits: u64::from(set),
+        }
     }
 
     pub fn union(self, other: AtomSet) -> AtomSet
@@ -60,8 +63,9 @@ impl AtomSet {
     pub fn difference(self, other: AtomSet) -> AtomSet
         ensures { result.bits ≡ difference self.bits other.bits }
     {
-        let bits = self.bits - (self.bits & other.bits);
-        AtomSet { bits }
+        AtomSet {
+            bits: self.bits & !other.bits,
+        }
     }
 
     pub fn is_subset(self, other: AtomSet) -> bool
@@ -81,17 +85,44 @@ impl AtomSet {
     pub fn contains(self, atom: u8) -> bool
         ensures { result ≡ member atom self.bits }
     {
-        if atom <= VIOLATION {
-            (self.bits >> atom) % 2 == 1
-        } else {
-            false
-        }
+        atom <= VIOLATION && (self.bits >> atom) % 2 == 1
     }
 
     // How many atoms the set has: its one bits.
+    #[tactic(auto, using(crate::proofs::SizeLaws::size_is))]
     pub fn count(self) -> u32
         ensures { result ≡ size self.bits }
     {
-        u64::count_ones(self.bits)
+        self.bits.count_ones()
+    }
+
+    // The atoms of the set, rising.
+    pub fn members(self) -> Members
+        ensures { result.left ≡ self.bits }
+    {
+        Members { left: self.bits }
+    }
+}
+
+// The atoms of a set, rising, from the first that has not come yet.
+#[derive(Drop)]
+pub struct Members {
+    left: u64,
+}
+
+impl Iterator for Members {
+    type Item = usize;
+
+    ghost next_gives = { YieldsFirst (λ m. atoms_of m.left) };
+
+    ghost remaining = { item_count (λ m. atoms_of m.left) };
+
+    fn next(&mut self) -> Option<usize> {
+        let left = self.left;
+        if left == 0 {
+            return None;
+        }
+        self.left = left & (left - 1);
+        Some(left.trailing_zeros() as usize)
     }
 }

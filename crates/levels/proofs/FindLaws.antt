@@ -13,7 +13,7 @@ use Rattle.rules.specs.Rules.{InBody, Levelled, Rule}
 use Rattle.records.specs.Records.{access_kind, record_at, rules_of, whole_records}
 use Rattle.records.proofs.TheoremsProof.{theorems}
 use Rattle.levels.specs.Graphs.{Depends, Headless, Kept, Layered}
-use Rattle.levels.specs.Levels.{Fine, Found, Levels, level_at}
+use Rattle.levels.specs.Levels.{Fine, Levels, level_at}
 use Rattle.levels.specs.Rows.{Access, Gathered, Tested}
 
 module _ (bytes : List ℕ) (rows negated : List ℕ) (heads : ℕ) (g : Gathered bytes (whole_records bytes) rows negated heads) where
@@ -45,7 +45,8 @@ module _ (bytes : List ℕ) (rows negated : List ℕ) (heads : ℕ) (g : Gathere
 
   module _ (sized : (j : ℕ) → Access bytes (whole_records bytes) j → (record_at bytes j).rule.negated < 2 ^ 64) (of at : List ℕ) (layers : Layered rows of at) (r : Bool)
       (t : Tested negated heads of at r) where
-    levels : r ≡ true → Levels rs of
+    pub levels : r ≡ true → Levels (rules_of access_kind bytes) of
+    unfolding rs
     levels e = record {
       kept = listed (Levelled (level_at of)) (λ j a. record { positive = λ k m. up (layers.above _ k (g.body j a k (inl m))); negated = λ k m. over j a k m (layers.above _ k (g.body j a k (inr m))) });
       fine = listed (Fine rs (level_at of)) (λ j a k i. fine (layers.above _ k (g.body j a k i)));
@@ -69,7 +70,8 @@ module _ (bytes : List ℕ) (rows negated : List ℕ) (heads : ℕ) (g : Gathere
         fine (inl l) = inl l
         fine (inr d) = inr (λ lev kept. d.1 lev (kept_rows lev kept))
 
-    none : r ≡ false → (lev : ℕ → ℕ) → Every (Levelled lev) rs → ⊥
+    pub none : r ≡ false → (lev : ℕ → ℕ) → Every (Levelled lev) (rules_of access_kind bytes) → ⊥
+    unfolding rs
     none e lev kept =
         let o = t.one e in
         let below : lev o.1 < lev o.0 = kept_nots lev kept o.0 o.1 o.2 in
@@ -82,7 +84,3 @@ module _ (bytes : List ℕ) (rows negated : List ℕ) (heads : ℕ) (g : Gathere
         go : {h k : ℕ} → lev k < lev h → level_at of k ≡ level_at of h → (level_at of k < level_at of h) ⊎ ((level_at of k ≡ level_at of h) × Depends rows k h) → ⊥
         go b s (inl l) = omega arith
         go b s (inr d) = omega (arith, d.1 lev (kept_rows lev kept))
-
-    pub found : Found (rules_of access_kind bytes) r of
-    unfolding rs
-    found = record { levels = levels; none = none }

@@ -1,154 +1,94 @@
 -- What the loops over the members of a set need. Assumes nothing.
 use mathlib.Core.Path.{◌∙◌, ◌≡◌, refl, subst, sym}
-use mathlib.Core.Logic.{◌≢◌, ◌⊎◌, inl, inr}
+use mathlib.Core.Logic.{◌↔◌, ◌⊎◌, inl, inr}
 use mathlib.Core.Bool.{false, true, true≢false}
-use mathlib.Core.List.{List}
-use Prim.Native.Nat.{◌-◌, ◌<◌, ◌^◌, ◌≤◌, ℕ}
-use lib.Bits.{bit_and}
-use lib.Count.{count_trailing_zeros}
+use mathlib.Core.List.{List, [], ◌++◌, ◌∷◌}
+use Prim.Native.Nat.{◌-◌, ◌<◌, ◌≤◌, ℕ}
 use lib.ListN.{get_or, length, length-set, set}
 use lib.Seq.{get_or-set_other, get_or-set_same}
 use native.Mathlib.Decide.{ℕ_discrete}
 use native.Mathlib.Omega.{arith}
-use Rattle.atoms.specs.Sets.{Member, Subset, disjoint, union}
-use Rattle.atoms.proofs.LowestLaws.{lowest_fits, lowest_in_set, lowest_or_rest, rest_in, rest_less}
+use Rattle.lists.specs.Lists.{OneOf}
+use Rattle.atoms.specs.Sets.{Member, disjoint, union}
+use Rattle.atoms.proofs.LoopLaws.{one_of_push}
 use Rattle.atoms.proofs.SetLaws.{disjoint_true, meets, none_in_empty, union_cases, union_left, union_right}
 use Rattle.levels.specs.Graphs.{Needs}
 use Rattle.levels.specs.Levels.{level_at}
 use Rattle.levels.specs.Rows.{Tested}
 use Rattle.levels.specs.Walks.{Marked, Over}
 
--- `left` are the members of s that the loop has not come to
-pub record Left (s left : ℕ) : Type 0 where
-  pub small : left < 2 ^ 64
-  pub within : Subset left s
-
-left_all : (s : ℕ) → s < 2 ^ 64 → Left s s
-left_all s b = record { small = b; within = λ k m. m }
-
-module _ (s left : ℕ) (l : Left s left) (some : left ≢ 0) where
-  left_next : Left s (bit_and left (left - 1))
-  left_next = record {
-    small = omega (arith, l.small, rest_less left some l.small);
-    within = λ k m. l.within k (rest_in left some l.small k m);
-  }
-
-  left_lowest : Member (count_trailing_zeros 64 left) s
-  left_lowest = l.within _ (lowest_in_set left some l.small)
-
 -- ---- what the members need
 
-pub record Needing (rows : List ℕ) (s left needs : ℕ) : Type 0 where
-  pub rest : Left s left
-  pub all : (h k : ℕ) → Member h s → Member k (get_or rows h 0) → Member h left ⊎ Member k needs
-  pub only : (k : ℕ) → Member k needs → (h : ℕ) × Member h s × Member k (get_or rows h 0)
+pub record Needing (rows ks : List ℕ) (needs : ℕ) : Type 0 where
+  pub all : (h k : ℕ) → OneOf h ks → Member k (get_or rows h 0) → Member k needs
+  pub only : (k : ℕ) → Member k needs → (h : ℕ) × OneOf h ks × Member k (get_or rows h 0)
 
-pub needing_start : (rows : List ℕ) (s : ℕ) → s < 2 ^ 64 → Needing rows s s 0
-needing_start rows s b = record { rest = left_all s b; all = λ h k m i. inl m; only = λ k m. absurd (none_in_empty k m) }
+pub needing_start : (rows : List ℕ) → Needing rows [] 0
+needing_start rows = record { all = λ h k i. absurd i; only = λ k m. absurd (none_in_empty k m) }
 
-module _ (rows : List ℕ) (s left needs : ℕ) (n : Needing rows s left needs) where
-  pub needing_next : left ≢ 0 → Needing rows s (bit_and left (left - 1)) (union needs (get_or rows (count_trailing_zeros 64 left) 0))
-  needing_next some = record {
-    rest = left_next s left n.rest some;
-    all = λ h k m i. more h k i (n.all h k m i);
-    only = λ k m. back k (union_cases needs row k m);
+module _ (rows ks : List ℕ) (needs : ℕ) (n : Needing rows ks needs) where
+  pub needing_next : (x : ℕ) → Needing rows (ks ++ (x ∷ [])) (union needs (get_or rows x 0))
+  needing_next x = record {
+    all = λ h k i m. all h k m ((one_of_push ks x h).0 i);
+    only = λ k m. only k (union_cases needs (get_or rows x 0) k m);
   }
     where
-      row : ℕ
-      row = get_or rows (count_trailing_zeros 64 left) 0
+      all : (h k : ℕ) → Member k (get_or rows h 0) → OneOf h ks ⊎ (h ≡ x) → Member k (union needs (get_or rows x 0))
+      all h k m (inl i) = union_left needs (get_or rows x 0) k (n.all h k i m)
+      all h k m (inr e) = union_right needs (get_or rows x 0) k (subst (λ (y : ℕ). Member k (get_or rows y 0)) e m)
 
-      more : (h k : ℕ) → Member k (get_or rows h 0) → Member h left ⊎ Member k needs → Member h (bit_and left (left - 1)) ⊎ Member k (union needs row)
-      more h k i (inl m) = pick (lowest_or_rest left some n.rest.small h m)
-        where
-          pick : (h ≡ count_trailing_zeros 64 left) ⊎ Member h (bit_and left (left - 1)) → Member h (bit_and left (left - 1)) ⊎ Member k (union needs row)
-          pick (inl e) = inr (union_right needs row k (subst (λ (x : ℕ). Member k (get_or rows x 0)) e i))
-          pick (inr r) = inl r
-      more h k i (inr m) = inr (union_left needs row k m)
+      only : (k : ℕ) → Member k needs ⊎ Member k (get_or rows x 0) → (h : ℕ) × OneOf h (ks ++ (x ∷ [])) × Member k (get_or rows h 0)
+      only k (inl m) = let o = n.only k m in (o.0, (one_of_push ks x o.0).1 (inl o.1), o.2)
+      only k (inr m) = (x, (one_of_push ks x x).1 (inr refl), m)
 
-      back : (k : ℕ) → Member k needs ⊎ Member k row → (h : ℕ) × Member h s × Member k (get_or rows h 0)
-      back k (inl m) = n.only k m
-      back k (inr m) = (count_trailing_zeros 64 left, left_lowest s left n.rest some, m)
-
-  pub needing_done : left ≡ 0 → Needs rows s needs
-  needing_done z = record { all = λ h k m i. go h k (n.all h k m i); only = n.only }
-    where
-      go : (h k : ℕ) → Member h left ⊎ Member k needs → Member k needs
-      go h k (inl m) = absurd (none_in_empty h (subst (Member h) z m))
-      go h k (inr m) = m
+  pub needing_done : (s : ℕ) → ((h : ℕ) → OneOf h ks ↔ Member h s) → Needs rows s needs
+  needing_done s f = record {
+    all = λ h k m. n.all h k ((f h).1 m);
+    only = λ k m. let o = n.only k m in (o.0, (f o.0).0 o.1, o.2);
+  }
 
 -- ---- the members get a level
 
-pub record Marking (before : List ℕ) (s level left : ℕ) (of : List ℕ) : Type 0 where
-  pub rest : Left s left
+pub record Marking (before : List ℕ) (level : ℕ) (ks of : List ℕ) : Type 0 where
   pub places : length of ≡ 64
-  pub inside : (k : ℕ) → Member k s → Member k left ⊎ (level_at of k ≡ level)
-  pub outside : (k : ℕ) → (Member k s → ⊥) → level_at of k ≡ level_at before k
+  pub inside : (k : ℕ) → OneOf k ks → level_at of k ≡ level
+  pub outside : (k : ℕ) → (OneOf k ks → ⊥) → level_at of k ≡ level_at before k
 
-pub marking_start : (of : List ℕ) (s level : ℕ) → s < 2 ^ 64 → length of ≡ 64 → Marking of s level s of
-marking_start of s level b w = record { rest = left_all s b; places = w; inside = λ k m. inl m; outside = λ k n. refl }
+pub marking_start : (of : List ℕ) (level : ℕ) → length of ≡ 64 → Marking of level [] of
+marking_start of level w = record { places = w; inside = λ k i. absurd i; outside = λ k n. refl }
 
-module _ (before : List ℕ) (s level left : ℕ) (of : List ℕ) (n : Marking before s level left of) where
-  pub marking_next : left ≢ 0 → Marking before s level (bit_and left (left - 1)) (set of (count_trailing_zeros 64 left) level)
-  marking_next some = record {
-    rest = left_next s left n.rest some;
+module _ (before : List ℕ) (level : ℕ) (ks of : List ℕ) (n : Marking before level ks of) where
+  pub marking_next : (x : ℕ) → x < 64 → Marking before level (ks ++ (x ∷ [])) (set of x level)
+  marking_next x low = record {
     places = simp length-set n.places;
-    inside = λ k m. more k (n.inside k m);
-    outside = λ k i. get_or-set_other of t k level 0 (λ e. i (subst (λ (x : ℕ). Member x s) (sym e) (left_lowest s left n.rest some))) ∙ n.outside k i;
+    inside = λ k i. inside k (ℕ_discrete k x) ((one_of_push ks x k).0 i);
+    outside = λ k o. get_or-set_other of x k level 0 (λ e. o ((one_of_push ks x k).1 (inr e))) ∙ n.outside k (λ i. o ((one_of_push ks x k).1 (inl i)));
   }
     where
-      t : ℕ
-      t = count_trailing_zeros 64 left
+      inside : (k : ℕ) → Dec (k ≡ x) → OneOf k ks ⊎ (k ≡ x) → level_at (set of x level) k ≡ level
+      inside k (yes e) i = subst (λ (y : ℕ). level_at (set of x level) y ≡ level) (sym e) (get_or-set_same of x level 0 (omega (arith, n.places)))
+      inside k (no o) (inl i) = get_or-set_other of x k level 0 o ∙ n.inside k i
+      inside k (no o) (inr e) = absurd (o e)
 
-      own : level_at (set of t level) t ≡ level
-      own = get_or-set_same of t level 0 (omega (arith, n.places, lowest_fits left some n.rest.small))
-
-      stays : (k : ℕ) → level_at of k ≡ level → level_at (set of t level) k ≡ level
-      stays k e = go (ℕ_discrete k t)
-        where
-          go : Dec (k ≡ t) → level_at (set of t level) k ≡ level
-          go (yes q) = subst (λ (x : ℕ). level_at (set of t level) x ≡ level) (sym q) own
-          go (no q) = get_or-set_other of t k level 0 q ∙ e
-
-      more : (k : ℕ) → Member k left ⊎ (level_at of k ≡ level) → Member k (bit_and left (left - 1)) ⊎ (level_at (set of t level) k ≡ level)
-      more k (inl m) = pick (lowest_or_rest left some n.rest.small k m)
-        where
-          pick : (k ≡ t) ⊎ Member k (bit_and left (left - 1)) → Member k (bit_and left (left - 1)) ⊎ (level_at (set of t level) k ≡ level)
-          pick (inl e) = inr (subst (λ (x : ℕ). level_at (set of t level) x ≡ level) (sym e) own)
-          pick (inr r) = inl r
-      more k (inr e) = inr (stays k e)
-
-  pub marking_done : left ≡ 0 → Marked before s level of
-  marking_done z = record { places = n.places; inside = λ k m. go k (n.inside k m); outside = n.outside }
-    where
-      go : (k : ℕ) → Member k left ⊎ (level_at of k ≡ level) → level_at of k ≡ level
-      go k (inl m) = absurd (none_in_empty k (subst (Member k) z m))
-      go k (inr e) = e
+  pub marking_done : (s : ℕ) → ((k : ℕ) → OneOf k ks ↔ Member k s) → Marked before s level of
+  marking_done s f = record { places = n.places; inside = λ k m. n.inside k ((f k).1 m); outside = λ k o. n.outside k (λ i. o ((f k).0 i)) }
 
 -- ---- no head has a negated atom on its own level
 
-pub record Testing (negated : List ℕ) (heads : ℕ) (of at : List ℕ) (left : ℕ) : Type 0 where
-  pub rest : Left heads left
-  pub none : (h k : ℕ) → Member h heads → Member k (get_or negated h 0) → Member k (get_or at (level_at of h) 0) → Member h left
+abbrev pub Testing : List ℕ → List ℕ → List ℕ → List ℕ → Type 0
+Testing negated of at ks = (h k : ℕ) → OneOf h ks → Member k (get_or negated h 0) → Member k (get_or at (level_at of h) 0) → ⊥
 
-pub testing_start : (negated : List ℕ) (heads : ℕ) (of at : List ℕ) → heads < 2 ^ 64 → Testing negated heads of at heads
-testing_start negated heads of at b = record { rest = left_all heads b; none = λ h k m i j. m }
-
-module _ (negated : List ℕ) (heads : ℕ) (of at : List ℕ) (left : ℕ) (n : Testing negated heads of at left) where
-  pub testing_next : left ≢ 0 → disjoint (get_or negated (count_trailing_zeros 64 left) 0) (get_or at (level_at of (count_trailing_zeros 64 left)) 0) ≡ true
-      → Testing negated heads of at (bit_and left (left - 1))
-  testing_next some e = record { rest = left_next heads left n.rest some; none = λ h k m i j. go h k i j (lowest_or_rest left some n.rest.small h (n.none h k m i j)) }
+module _ (negated of at ks : List ℕ) (n : Testing negated of at ks) where
+  pub testing_next : (x : ℕ) → disjoint (get_or negated x 0) (get_or at (level_at of x) 0) ≡ true → Testing negated of at (ks ++ (x ∷ []))
+  testing_next x e h k i m j = go ((one_of_push ks x h).0 i)
     where
-      go : (h k : ℕ) → Member k (get_or negated h 0) → Member k (get_or at (level_at of h) 0) → (h ≡ count_trailing_zeros 64 left) ⊎ Member h (bit_and left (left - 1))
-          → Member h (bit_and left (left - 1))
-      go h k i j (inl q) =
-          absurd (disjoint_true _ _ e k (subst (λ (x : ℕ). Member k (get_or negated x 0)) q i) (subst (λ (x : ℕ). Member k (get_or at (level_at of x) 0)) q j))
-      go h k i j (inr r) = r
+      go : OneOf h ks ⊎ (h ≡ x) → ⊥
+      go (inl i) = n h k i m j
+      go (inr q) =
+          disjoint_true _ _ e k (subst (λ (y : ℕ). Member k (get_or negated y 0)) q m) (subst (λ (y : ℕ). Member k (get_or at (level_at of y) 0)) q j)
 
-  pub testing_done : left ≡ 0 → Tested negated heads of at true
-  testing_done z = record {
-    none = λ e h k m i j. none_in_empty h (subst (Member h) z (n.none h k m i j));
-    one = λ e. absurd (true≢false e);
-  }
+  pub testing_done : (heads : ℕ) → ((h : ℕ) → OneOf h ks ↔ Member h heads) → Tested negated heads of at true
+  testing_done heads f = record { none = λ e h k i. n h k ((f h).1 i); one = λ e. absurd (true≢false e) }
 
 pub testing_met : (negated : List ℕ) (heads : ℕ) (of at : List ℕ) (h : ℕ) → disjoint (get_or negated h 0) (get_or at (level_at of h) 0) ≡ false
     → Tested negated heads of at false

@@ -1,19 +1,16 @@
 -- What the loop needs that gathers rules by head. Assumes nothing.
-use mathlib.Core.Path.{◌∙◌, ◌≡◌, ap, refl, subst, sym}
+use mathlib.Core.Path.{◌≡◌, subst, sym}
 use mathlib.Core.Logic.{◌⊎◌, inl, inr}
-use mathlib.Core.Bool.{Bool, cond, false, true}
 use mathlib.Core.List.{List}
 use Prim.Native.Nat.{◌*◌, ◌+◌, ◌<◌, ◌≤◌, ℕ}
-use lib.Dec.{eqb}
 use lib.ListN.{get_or, length, replicate, set}
 use lib.Seq.{get_or-set_other, get_or-set_same}
-use borrow.Author.Tests.{eqb-false, eqb-true}
 use native.Mathlib.Decide.{ℕ_discrete}
 use native.Mathlib.Nat.{eq-or-lt_of_le, not-suc-le-zero}
 use native.Mathlib.Omega.{arith}
 use Rattle.atoms.specs.Atoms.{violation}
-use Rattle.atoms.specs.Sets.{Member, empty, single, union}
-use Rattle.atoms.proofs.SetLaws.{none_in_empty, single_own, union_cases, union_left, union_right}
+use Rattle.atoms.specs.Sets.{Member, single, union}
+use Rattle.atoms.proofs.SetLaws.{single_own, union_cases, union_left, union_right}
 use Rattle.rules.specs.Rules.{InBody}
 use Rattle.records.specs.Records.{Record, access_kind, record_at}
 use Rattle.levels.specs.Levels.{AccessHeads}
@@ -85,14 +82,14 @@ module _ (bytes : List ℕ) (n : ℕ) (rows negated : List ℕ) (heads : ℕ) (g
       go (inr l) = inr (record { before = l; kind = a.kind })
 
   -- a record of another kind adds nothing
-  other : (d.kind ≡ access_kind → ⊥) → Gathered bytes (n + 1) (set rows 0 (union (get_or rows 0 0) 0)) (set negated 0 (union (get_or negated 0 0) 0)) (union heads 0)
+  other : (d.kind ≡ access_kind → ⊥) → Gathered bytes (n + 1) rows negated heads
   unfolding d
   other not-access = record {
-    head = λ j a. union_left heads 0 _ (g.head j (earlier j a));
-    body = λ j a k m. put_old rows 0 0 (omega arith) k _ (g.body j (earlier j a) k m);
-    nots = λ j a k m. put_old negated 0 0 (omega arith) k _ (g.nots j (earlier j a) k m);
-    only = λ h k m. let o = g.only h k (unput rows k h (put_cases rows 0 0 (omega arith) k h m)) in (o.0, more o.0 o.1, o.2, o.3);
-    only_nots = λ h k m. let o = g.only_nots h k (unput negated k h (put_cases negated 0 0 (omega arith) k h m)) in (o.0, more o.0 o.1, o.2, o.3);
+    head = λ j a. g.head j (earlier j a);
+    body = λ j a. g.body j (earlier j a);
+    nots = λ j a. g.nots j (earlier j a);
+    only = λ h k m. let o = g.only h k m in (o.0, more o.0 o.1, o.2, o.3);
+    only_nots = λ h k m. let o = g.only_nots h k m in (o.0, more o.0 o.1, o.2, o.3);
   }
     where
       earlier : (j : ℕ) → Access bytes (n + 1) j → Access bytes n j
@@ -101,10 +98,6 @@ module _ (bytes : List ℕ) (n : ℕ) (rows negated : List ℕ) (heads : ℕ) (g
           go : (j ≡ n) ⊎ Access bytes n j → Access bytes n j
           go (inl e) = absurd (not-access (subst (λ (x : ℕ). (record_at bytes x).kind ≡ access_kind) e a.kind))
           go (inr b) = b
-
-      unput : (xs : List ℕ) (k h : ℕ) → Member k (get_or xs h 0) ⊎ ((h ≡ 0) × Member k 0) → Member k (get_or xs h 0)
-      unput xs k h (inl m) = m
-      unput xs k h (inr e) = absurd (none_in_empty k e.1)
 
   -- an access record adds its body to the row of its head
   module _ (access : d.kind ≡ access_kind) (low : d.rule.head ≤ violation) where
@@ -171,44 +164,21 @@ module _ (bytes : List ℕ) (n : ℕ) (rows negated : List ℕ) (heads : ℕ) (g
         only_nots h k (inl m) = let o = g.only_nots h k m in (o.0, more o.0 o.1, o.2, o.3)
         only_nots h k (inr e) = (n, own, sym e.0, e.1)
 
-  -- as the program does it: another record leaves row 0 as it is
-  abbrev Next : Record → Type 0
-  Next r =
-      (r.kind ≡ access_kind → r.rule.head ≤ violation) → (h p m s : ℕ) → h ≡ cond (eqb r.kind access_kind) r.rule.head 0
-      → p ≡ cond (eqb r.kind access_kind) r.rule.positive empty → m ≡ cond (eqb r.kind access_kind) r.rule.negated empty
-      → s ≡ cond (eqb r.kind access_kind) (single r.rule.head) empty
-      → Gathered bytes (n + 1) (set rows h (union (get_or rows h 0) (union p m))) (set negated h (union (get_or negated h 0) m)) (union heads s)
-
-  next : Next (record_at bytes n)
+  pub gathered_other : (r : Record) → r ≡ record_at bytes n → (r.kind ≡ access_kind → ⊥) → Gathered bytes (n + 1) rows negated heads
   unfolding d
-  next low h p m s = go (eqb (record_at bytes n).kind access_kind) refl
-    where
-      to : (h' p' m' s' : ℕ) → h ≡ h' → p ≡ p' → m ≡ m' → s ≡ s'
-          → Gathered bytes (n + 1) (set rows h' (union (get_or rows h' 0) (union p' m'))) (set negated h' (union (get_or negated h' 0) m')) (union heads s')
-          → Gathered bytes (n + 1) (set rows h (union (get_or rows h 0) (union p m))) (set negated h (union (get_or negated h 0) m)) (union heads s)
-      to h' p' m' s' a b c e x =
-          subst (λ (y : ℕ). Gathered bytes (n + 1) (set rows y (union (get_or rows y 0) (union p m))) (set negated y (union (get_or negated y 0) m)) (union heads s)) (sym a)
-          (subst (λ (y : ℕ). Gathered bytes (n + 1) (set rows h' (union (get_or rows h' 0) (union y m))) (set negated h' (union (get_or negated h' 0) m)) (union heads s)) (sym b)
-          (subst (λ (y : ℕ). Gathered bytes (n + 1) (set rows h' (union (get_or rows h' 0) (union p' y))) (set negated h' (union (get_or negated h' 0) y)) (union heads s)) (sym c)
-          (subst (λ (y : ℕ). Gathered bytes (n + 1) (set rows h' (union (get_or rows h' 0) (union p' m'))) (set negated h' (union (get_or negated h' 0) m')) (union heads y)) (sym e) x)))
+  gathered_other r e f = other (subst (λ (x : Record). x.kind ≡ access_kind → ⊥) e f)
 
-      go : (t : Bool) → eqb (record_at bytes n).kind access_kind ≡ t → h ≡ cond t (record_at bytes n).rule.head 0 → p ≡ cond t (record_at bytes n).rule.positive empty
-          → m ≡ cond t (record_at bytes n).rule.negated empty → s ≡ cond t (single (record_at bytes n).rule.head) empty
-          → Gathered bytes (n + 1) (set rows h (union (get_or rows h 0) (union p m))) (set negated h (union (get_or negated h 0) m)) (union heads s)
-      go true t a b c e = let k = eqb-true _ _ t in to _ _ _ _ a b c e (joined k (low k))
-      go false t a b c e = to 0 0 0 0 a b c e (other (eqb-false _ _ t))
+  -- what an access record writes
+  abbrev Next : Record → Type 0
+  Next r = r.kind ≡ access_kind → r.rule.head ≤ violation
+      → Gathered bytes (n + 1) (set rows r.rule.head (union (get_or rows r.rule.head 0) (union r.rule.positive r.rule.negated)))
+      (set negated r.rule.head (union (get_or negated r.rule.head 0) r.rule.negated)) (union heads (single r.rule.head))
 
-  gathered_next : (r : Record) → r ≡ record_at bytes n → Next r
-  gathered_next r e = subst Next (sym e) next
+  next : (r : Record) → r ≡ record_at bytes n → Next r
+  unfolding d
+  next r e = subst Next (sym e) joined
 
-  -- what is written, and what is written there
-  pub gathered_put : (r : Record) → r ≡ record_at bytes n → (r.kind ≡ access_kind → r.rule.head ≤ violation) → (h p m s own all x y z : ℕ)
-      → h ≡ cond (eqb r.kind access_kind) r.rule.head 0 → p ≡ cond (eqb r.kind access_kind) r.rule.positive empty
-      → m ≡ cond (eqb r.kind access_kind) r.rule.negated empty → s ≡ cond (eqb r.kind access_kind) own empty → own ≡ single r.rule.head
-      → all ≡ union p m → x ≡ union (get_or rows h 0) all → y ≡ union (get_or negated h 0) m → z ≡ union heads s
-      → Gathered bytes (n + 1) (set rows h x) (set negated h y) z
-  gathered_put r e low h p m s own all x y z a b c t o l i j k =
-      subst (λ (q : ℕ). Gathered bytes (n + 1) (set rows h q) (set negated h y) z) (sym (i ∙ ap (union (get_or rows h 0)) l))
-      (subst (λ (q : ℕ). Gathered bytes (n + 1) (set rows h (union (get_or rows h 0) (union p m))) (set negated h q) z) (sym j)
-      (subst (λ (q : ℕ). Gathered bytes (n + 1) (set rows h (union (get_or rows h 0) (union p m))) (set negated h (union (get_or negated h 0) m)) q) (sym k)
-      (gathered_next r e low h p m s a b c (t ∙ ap (λ (q : ℕ). cond (eqb r.kind access_kind) q empty) o))))
+  pub gathered_put : (r : Record) → r ≡ record_at bytes n → r.kind ≡ access_kind → r.rule.head ≤ violation → (h : ℕ) → h ≡ r.rule.head → (own all x y z : ℕ)
+      → own ≡ single r.rule.head → all ≡ union r.rule.positive r.rule.negated → x ≡ union (get_or rows h 0) all → y ≡ union (get_or negated h 0) r.rule.negated
+      → z ≡ union heads own → Gathered bytes (n + 1) (set rows h x) (set negated h y) z
+  gathered_put r e k l h q own all x y z o a b c f = let g = next r e k l in rw (f, b, c, o, a, q) g

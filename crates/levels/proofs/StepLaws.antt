@@ -30,14 +30,14 @@ settled_same rows fresh path of at count fresh' path' f g s = record {
 
 -- ---- an atom is entered
 
-module _ (rows under of at : List ℕ) (w : Walk) (v : Walking rows under of at w) (among : ℕ) (next : List ℕ) (r : Walk)
-    (e : Entered under w among next r) (new : Subset among w.fresh.bits)
-    (needed : (k : ℕ) → Member k among → (a : ℕ) → Member a (get_or under w.depth 0) → Depends rows a k) where
+module _ (rows of at : List ℕ) (w : Walk) (v : Walking rows w of at) (among : ℕ) (r : Walk)
+    (e : Entered w among r) (new : Subset among w.fresh.bits)
+    (needed : (k : ℕ) → Member k among → (a : ℕ) → Member a (get_or w.under w.depth 0) → Depends rows a k) where
   F : ℕ
   F = w.fresh.bits
 
   P : ℕ
-  P = get_or under w.depth 0
+  P = get_or w.under w.depth 0
 
   k : ℕ
   k = e.atom
@@ -58,12 +58,12 @@ module _ (rows under of at : List ℕ) (w : Walk) (v : Walking rows under of at 
       size_lt (difference F (single k)) F k low (λ j m. ((difference_iff F (single k) j).0 m).0) is_fresh
       (not_in _ k (λ m. ((difference_iff F (single k) k).0 m).1 own))
 
-  room : w.depth + 1 < length under
+  room : w.depth + 1 < length w.under
   unfolding F
   room = omega (arith, v.places, v.room, v.some, fewer)
 
-  top : get_or (set under (w.depth + 1) (union P (single k))) (w.depth + 1) 0 ≡ union P (single k)
-  top = get_or-set_same under (w.depth + 1) _ 0 room
+  top : get_or (set w.under (w.depth + 1) (union P (single k))) (w.depth + 1) 0 ≡ union P (single k)
+  top = get_or-set_same w.under (w.depth + 1) _ 0 room
 
   out_in : (j : ℕ) → Unsettled F P j → Unsettled (difference F (single k)) (union P (single k)) j
   out_in j (inl m) = go (decide (single k) j)
@@ -89,25 +89,25 @@ module _ (rows under of at : List ℕ) (w : Walk) (v : Walking rows under of at 
       go f o (inl p) = v.apart j f p
       go f o (inr s) = o s
 
-  walking : (x : ℕ) → x ≡ w.depth + 1 → Walking rows (set under (w.depth + 1) (union P (single k))) of at (record { fresh = record { bits = difference F (single k) }; depth = x; count = w.count })
+  walking : (x : ℕ) → x ≡ w.depth + 1 → Walking rows (record { under = set w.under (w.depth + 1) (union P (single k)); fresh = record { bits = difference F (single k) }; depth = x; count = w.count }) of at
   unfolding F P k
   walking x q = record {
     places = simp length-set v.places;
-    chain = subst (Chained rows _) (sym q) (chained_entered rows under w.depth k v.chain room low (λ m. v.apart k is_fresh m) (needed k e.one));
-    apart = subst (λ (y : ℕ). (j : ℕ) → Member j (difference F (single k)) → Member j (get_or (set under (w.depth + 1) (union P (single k))) y 0) → ⊥) (sym q)
+    chain = subst (Chained rows _) (sym q) (chained_entered rows w.under w.depth k v.chain room low (λ m. v.apart k is_fresh m) (needed k e.one));
+    apart = subst (λ (y : ℕ). (j : ℕ) → Member j (difference F (single k)) → Member j (get_or (set w.under (w.depth + 1) (union P (single k))) y 0) → ⊥) (sym q)
         (λ j m i. apart j m (subst (Member j) top i));
-    settled = subst (λ (y : ℕ). Settled rows (difference F (single k)) (get_or (set under (w.depth + 1) (union P (single k))) y 0) of at w.count) (sym q)
+    settled = subst (λ (y : ℕ). Settled rows (difference F (single k)) (get_or (set w.under (w.depth + 1) (union P (single k))) y 0) of at w.count) (sym q)
         (subst (λ (y : ℕ). Settled rows (difference F (single k)) y of at w.count) (sym top) (settled_same rows F P of at w.count _ _ out_in in_out v.settled));
     small = omega (arith, v.small);
     some = v.some;
     room = omega (arith, v.room, fewer);
   }
 
-  pub entered_step : Stepped rows w next of at r
+  pub entered_step : Stepped rows w of at r
   unfolding F P k
   entered_step = record { walking = walks; less = omega (arith, fewer, ap size e.fresh, e.depth) }
     where
-      walks : Walking rows next of at r
+      walks : Walking rows r of at
       walks = record {
         places = subst (λ (x : List ℕ). length x ≡ 65) (sym e.path) now_so.places;
         chain = subst (λ (x : List ℕ). Chained rows x r.depth) (sym e.path) now_so.chain;
@@ -122,16 +122,15 @@ module _ (rows under of at : List ℕ) (w : Walk) (v : Walking rows under of at 
       }
         where
           grown : List ℕ
-          grown = set under (w.depth + 1) (union (get_or under w.depth 0) (single e.atom))
+          grown = set w.under (w.depth + 1) (union (get_or w.under w.depth 0) (single e.atom))
 
-          now_so : Walking rows (set under (w.depth + 1) (union (get_or under w.depth 0) (single e.atom))) of at
-              (record { fresh = record { bits = difference w.fresh.bits (single e.atom) }; depth = r.depth; count = w.count })
+          now_so : Walking rows (record { under = set w.under (w.depth + 1) (union (get_or w.under w.depth 0) (single e.atom)); fresh = record { bits = difference w.fresh.bits (single e.atom) }; depth = r.depth; count = w.count }) of at
           now_so = walking r.depth e.depth
 
 -- ---- the last component: c is what the path has and the place below has not
 
-module _ (rows under of at : List ℕ) (w : Walk) (v : Walking rows under of at w) (some : w.depth ≢ 0) (members needs outside : ℕ)
-    (is : members ≡ difference (get_or under w.depth 0) (get_or under (w.depth - 1) 0)) (n : Needs rows members needs) (out : outside ≡ difference needs members) where
+module _ (rows of at : List ℕ) (w : Walk) (v : Walking rows w of at) (some : w.depth ≢ 0) (members needs outside : ℕ)
+    (is : members ≡ difference (get_or w.under w.depth 0) (get_or w.under (w.depth - 1) 0)) (n : Needs rows members needs) (out : outside ≡ difference needs members) where
   d : ℕ
   d = w.depth
 
@@ -142,36 +141,36 @@ module _ (rows under of at : List ℕ) (w : Walk) (v : Walking rows under of at 
   unfolding d e
   after = omega arith
 
-  member_iff : (k : ℕ) → Member k members → Member k (get_or under d 0) × (Member k (get_or under e 0) → ⊥)
+  member_iff : (k : ℕ) → Member k members → Member k (get_or w.under d 0) × (Member k (get_or w.under e 0) → ⊥)
   unfolding d e
-  member_iff k m = (difference_iff (get_or under w.depth 0) (get_or under (w.depth - 1) 0) k).0 (subst (Member k) is m)
+  member_iff k m = (difference_iff (get_or w.under w.depth 0) (get_or w.under (w.depth - 1) 0) k).0 (subst (Member k) is m)
 
-  iff_member : (k : ℕ) → Member k (get_or under d 0) → (Member k (get_or under e 0) → ⊥) → Member k members
+  iff_member : (k : ℕ) → Member k (get_or w.under d 0) → (Member k (get_or w.under e 0) → ⊥) → Member k members
   unfolding d e
-  iff_member k m o = subst (Member k) (sym is) ((difference_iff (get_or under w.depth 0) (get_or under (w.depth - 1) 0) k).1 (m, o))
+  iff_member k m o = subst (Member k) (sym is) ((difference_iff (get_or w.under w.depth 0) (get_or w.under (w.depth - 1) 0) k).1 (m, o))
 
   outside_iff : (k : ℕ) → Member k outside → Member k needs × (Member k members → ⊥)
   outside_iff k m = (difference_iff needs members k).0 (subst (Member k) out m)
 
   -- every atom of the walk depends on what is needed
-  pub needed_by_all : (k : ℕ) → Member k outside → (a : ℕ) → Member a (get_or under w.depth 0) → Depends rows a k
+  pub needed_by_all : (k : ℕ) → Member k outside → (a : ℕ) → Member a (get_or w.under w.depth 0) → Depends rows a k
   unfolding d e
   needed_by_all k m a ma lev kept =
       let t = n.only k (outside_iff k m).0 in
       let i = member_iff t.0 t.1 in
       let one : lev k ≤ lev t.0 = kept t.0 k t.2 in
-      let two : lev t.0 ≤ lev a = last_depends rows under d e after v.chain a t.0 ma i.0 i.1 lev kept in
+      let two : lev t.0 ≤ lev a = last_depends rows w.under d e after v.chain a t.0 ma i.0 i.1 lev kept in
       omega arith
 
   -- ---- the last two become one
 
-  pub joined_step : disjoint outside (get_or under w.depth 0) ≡ false → Stepped rows w (set under (w.depth - 1) (get_or under w.depth 0)) of at
-      (record { fresh = w.fresh; depth = w.depth - 1; count = w.count })
+  pub joined_step : disjoint outside (get_or w.under w.depth 0) ≡ false → Stepped rows w of at
+      (record { under = set w.under (w.depth - 1) (get_or w.under w.depth 0); fresh = w.fresh; depth = w.depth - 1; count = w.count })
   unfolding d e
   joined_step met = record {
     walking = record {
       places = simp length-set v.places;
-      chain = chained_joined rows under d e after v.chain fits k t earlier it.0 it.1 row;
+      chain = chained_joined rows w.under d e after v.chain fits k t earlier it.0 it.1 row;
       apart = λ j m i. v.apart j m (subst (Member j) top i);
       settled = subst (λ (y : ℕ). Settled rows w.fresh.bits y of at w.count) (sym top) v.settled;
       small = v.small;
@@ -181,11 +180,11 @@ module _ (rows under of at : List ℕ) (w : Walk) (v : Walking rows under of at 
     less = omega arith;
   }
     where
-      fits : w.depth < length under
+      fits : w.depth < length w.under
       fits = omega (arith, v.places, v.room, v.some)
 
-      m : (k : ℕ) × Member k outside × Member k (get_or under w.depth 0)
-      m = meets outside (get_or under w.depth 0) met
+      m : (k : ℕ) × Member k outside × Member k (get_or w.under w.depth 0)
+      m = meets outside (get_or w.under w.depth 0) met
 
       k : ℕ
       k = m.0
@@ -202,33 +201,33 @@ module _ (rows under of at : List ℕ) (w : Walk) (v : Walking rows under of at 
       row : Member k (get_or rows t 0)
       row = user.2
 
-      it : Member t (get_or under d 0) × (Member t (get_or under e 0) → ⊥)
+      it : Member t (get_or w.under d 0) × (Member t (get_or w.under e 0) → ⊥)
       it = member_iff t user.1
 
-      earlier : Member k (get_or under e 0)
-      earlier = go (decide (get_or under e 0) k)
+      earlier : Member k (get_or w.under e 0)
+      earlier = go (decide (get_or w.under e 0) k)
         where
-          go : Member k (get_or under e 0) ⊎ (Member k (get_or under e 0) → ⊥) → Member k (get_or under e 0)
+          go : Member k (get_or w.under e 0) ⊎ (Member k (get_or w.under e 0) → ⊥) → Member k (get_or w.under e 0)
           go (inl i) = i
           go (inr x) = absurd (o.1 (iff_member k m.2 x))
 
-      top : get_or (set under (w.depth - 1) (get_or under w.depth 0)) (w.depth - 1) 0 ≡ get_or under w.depth 0
-      top = get_or-set_same under (w.depth - 1) _ 0 (omega (arith, fits))
+      top : get_or (set w.under (w.depth - 1) (get_or w.under w.depth 0)) (w.depth - 1) 0 ≡ get_or w.under w.depth 0
+      top = get_or-set_same w.under (w.depth - 1) _ 0 (omega (arith, fits))
 
   -- ---- the last is settled
 
-  pub settled_step : disjoint outside (get_or under w.depth 0) ≡ true → intersection outside w.fresh.bits ≡ 0 → (of' at' : List ℕ) (count : ℕ)
-      → Placed of at members outside w.count of' at' count → Stepped rows w under of' at' (record { fresh = w.fresh; depth = w.depth - 1; count = count })
+  pub settled_step : disjoint outside (get_or w.under w.depth 0) ≡ true → intersection outside w.fresh.bits ≡ 0 → (of' at' : List ℕ) (count : ℕ)
+      → Placed of at members outside w.count of' at' count → Stepped rows w of' at' (record { under = w.under; fresh = w.fresh; depth = w.depth - 1; count = count })
   unfolding d e
   settled_step clear none of' at' count p = record {
     walking = record {
       places = v.places;
-      chain = chained_settled rows under d e after v.chain;
+      chain = chained_settled rows w.under d e after v.chain;
       apart = λ j m i. v.apart j m (v.chain.nested e d (omega arith) (omega arith) j i);
       settled =
-          settled_next rows w.fresh.bits (get_or under d 0) (get_or under e 0) members outside of at w.count v.settled
+          settled_next rows w.fresh.bits (get_or w.under d 0) (get_or w.under e 0) members outside of at w.count v.settled
           (λ k m. (member_iff k m).0) (λ k m. (member_iff k m).1) rest (v.chain.nested e d (omega arith) (omega arith)) v.apart needed done
-          (λ a b ma mb. last_depends rows under d e after v.chain a b (member_iff a ma).0 (member_iff b mb).0 (member_iff b mb).1) of' at' count p
+          (λ a b ma mb. last_depends rows w.under d e after v.chain a b (member_iff a ma).0 (member_iff b mb).0 (member_iff b mb).1) of' at' count p
           (omega (arith, v.room));
       small = v.small;
       some = omega (arith, v.some, p.more);
@@ -237,10 +236,10 @@ module _ (rows under of at : List ℕ) (w : Walk) (v : Walking rows under of at 
     less = omega arith;
   }
     where
-      rest : (k : ℕ) → Member k (get_or under d 0) → Member k members ⊎ Member k (get_or under e 0)
-      rest k m = go (decide (get_or under e 0) k)
+      rest : (k : ℕ) → Member k (get_or w.under d 0) → Member k members ⊎ Member k (get_or w.under e 0)
+      rest k m = go (decide (get_or w.under e 0) k)
         where
-          go : Member k (get_or under e 0) ⊎ (Member k (get_or under e 0) → ⊥) → Member k members ⊎ Member k (get_or under e 0)
+          go : Member k (get_or w.under e 0) ⊎ (Member k (get_or w.under e 0) → ⊥) → Member k members ⊎ Member k (get_or w.under e 0)
           go (inl i) = inr i
           go (inr o) = inl (iff_member k m o)
 
@@ -251,9 +250,9 @@ module _ (rows under of at : List ℕ) (w : Walk) (v : Walking rows under of at 
           go (inl i) = inl i
           go (inr o) = inr (subst (Member k) (sym out) ((difference_iff needs members k).1 (n.all h k m row, o)))
 
-      done : (k : ℕ) → Member k outside → Unsettled w.fresh.bits (get_or under d 0) k → ⊥
+      done : (k : ℕ) → Member k outside → Unsettled w.fresh.bits (get_or w.under d 0) k → ⊥
       done k m (inl f) = none_in_empty k (subst (Member k) none ((intersection_iff outside w.fresh.bits k).1 (m, f)))
-      done k m (inr i) = disjoint_true outside (get_or under d 0) clear k m i
+      done k m (inr i) = disjoint_true outside (get_or w.under d 0) clear k m i
 
 -- a set with an atom has a size
 pub some_left : (s among : ℕ) → s < 2 ^ 64 → Subset among s → among ≢ 0 → 0 < size s

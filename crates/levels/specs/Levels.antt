@@ -1,5 +1,5 @@
 -- Document 02, R-4: levels for a policy's access rules. Assumes nothing.
-use Rattle.std.specs.Prelude.{◌≡◌, ◌⊎◌, Bool, false, true, List, ◌*◌, ◌+◌, ◌<◌, ◌≤◌, ℕ, get_or, length}
+use Rattle.std.specs.Prelude.{◌≡◌, ◌⊎◌, List, None, Option, Some, ◌*◌, ◌+◌, ◌<◌, ◌≤◌, ℕ, get_or, length}
 use Rattle.lists.specs.Lists.{Every}
 use Rattle.atoms.specs.Atoms.{violation}
 use Rattle.rules.specs.Rules.{InBody, Levelled, Rule}
@@ -27,9 +27,9 @@ pub record Levels (rs : List Rule) (of : List ℕ) : Type 0 where
   pub low : Low of
 
 -- what is found: levels, or that there are none, "no choice of a whole number as each atom's level"
-pub record Found (rs : List Rule) (found : Bool) (of : List ℕ) : Type 0 where
-  pub levels : found ≡ true → Levels rs of
-  pub none : found ≡ false → (lev : ℕ → ℕ) → Every (Levelled lev) rs → ⊥
+abbrev pub Found : List Rule → Option (List ℕ) → Type 0
+Found rs (Some of) = Levels rs of
+Found rs None = (lev : ℕ → ℕ) → Every (Levelled lev) rs → ⊥
 
 -- "An access head is 16 to 63.": at most 63
 abbrev pub AccessHeads : List ℕ → Type 0

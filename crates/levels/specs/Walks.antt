@@ -28,20 +28,20 @@ pub record Chained (rows under : List ℕ) (depth : ℕ) : Type 0 where
       → ((i : ℕ) → i ≤ depth → Member b (get_or under i 0) → Member a (get_or under i 0)) → Depends rows a b
 
 -- the whole state: a level, a component or a fresh atom for each of 64 atoms at most, and level 0
-pub record Walking (rows under of at : List ℕ) (w : Walk) : Type 0 where
-  pub places : length under ≡ 65
-  pub chain : Chained rows under w.depth
-  pub apart : (k : ℕ) → Member k w.fresh.bits → Member k (get_or under w.depth 0) → ⊥
-  pub settled : Settled rows w.fresh.bits (get_or under w.depth 0) of at w.count
+pub record Walking (rows : List ℕ) (w : Walk) (of at : List ℕ) : Type 0 where
+  pub places : length w.under ≡ 65
+  pub chain : Chained rows w.under w.depth
+  pub apart : (k : ℕ) → Member k w.fresh.bits → Member k (get_or w.under w.depth 0) → ⊥
+  pub settled : Settled rows w.fresh.bits (get_or w.under w.depth 0) of at w.count
   pub small : w.fresh.bits < 2 ^ 64
   pub some : 1 ≤ w.count
   pub room : w.count + w.depth + size w.fresh.bits ≤ 65
 
 -- an atom of `among` is a new component
-pub record Entered (under : List ℕ) (w : Walk) (among : ℕ) (next : List ℕ) (r : Walk) : Type 0 where
+pub record Entered (w : Walk) (among : ℕ) (r : Walk) : Type 0 where
   pub atom : ℕ
   pub one : Member atom among
-  pub path : next ≡ set under (w.depth + 1) (union (get_or under w.depth 0) (single atom))
+  pub path : r.under ≡ set w.under (w.depth + 1) (union (get_or w.under w.depth 0) (single atom))
   pub fresh : r.fresh.bits ≡ difference w.fresh.bits (single atom)
   pub depth : r.depth ≡ w.depth + 1
   pub count : r.count ≡ w.count
@@ -74,6 +74,6 @@ pub record Placed (of at : List ℕ) (members outside count : ℕ) (of' at' : Li
   pub few : r ≤ count + 1
 
 -- a step: an atom is entered, two components become one, or one is settled
-pub record Stepped (rows : List ℕ) (w : Walk) (under of at : List ℕ) (r : Walk) : Type 0 where
-  pub walking : Walking rows under of at r
+pub record Stepped (rows : List ℕ) (w : Walk) (of at : List ℕ) (r : Walk) : Type 0 where
+  pub walking : Walking rows r of at
   pub less : 2 * size r.fresh.bits + r.depth < 2 * size w.fresh.bits + w.depth

@@ -1,7 +1,7 @@
 // The levels of all atoms.
 ghost use Rattle.levels.specs.Graphs.{Headless, Layered};
 
-use crate::walk::{Walk, step};
+use crate::walk::Walk;
 use atoms::AtomSet;
 
 // The level of each atom, and the atoms of each level.
@@ -16,22 +16,21 @@ pub(crate) fn layered(rows: &[u64; 64], heads: AtomSet) -> Layers
     requires { Headless rows.now heads.bits }
     ensures { Layered rows.now result.of result.at }
 {
-    let mut under = [0u64; 65];
-    let mut of = [0u8; 64];
-    let mut at = [0u64; 65];
+    let mut layers = Layers {
+        of: [0u8; 64],
+        at: [0u64; 65],
+    };
     let all = AtomSet { bits: u64::MAX };
-    at[0] = all.difference(heads).bits;
+    layers.at[0] = all.difference(heads).bits;
     let mut walk = Walk {
+        under: [0u64; 65],
         fresh: heads,
         depth: 0,
         count: 1,
     };
-    loop {
-        let depth = walk.depth;
-        let path = under[depth];
-        if walk.fresh.bits | path == 0 {
-            return Layers { of, at };
-        }
-        walk = step(rows, &mut under, &mut of, &mut at, walk);
+    // How many steps there are is not known before: no range counts them.
+    while walk.fresh.bits | walk.under[walk.depth] != 0 {
+        walk.step(rows, &mut layers);
     }
+    layers
 }

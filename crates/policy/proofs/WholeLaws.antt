@@ -1,36 +1,43 @@
 -- The last test, from the levels that are found or not. Assumes nothing.
-use mathlib.Core.Path.{◌∙◌, ◌≡◌, ap, sym}
-use mathlib.Core.Bool.{Bool, cond, false, true}
+use mathlib.Core.Path.{◌≡◌, ap, subst, sym}
+use mathlib.Core.Bool.{Bool, cond}
 use mathlib.Core.List.{List}
-use mathlib.Core.Option.{Option, some-ne-none, none, some}
-use Prim.Native.Nat.{ℕ}
+use mathlib.Core.Option.{Option, none, some}
+use Prim.Native.Nat.{◌%◌, ◌≤◌, ℕ}
+use lib.ListN.{length}
+use Rattle.std.proofs.Common.{None, Some}
 use Rattle.encoding.specs.LittleEndian.{Bytes}
 use Rattle.validation.specs.Tests.{first_failed}
 use Rattle.strata.proofs.StrataLaws as strata
 use Rattle.records.specs.Records.{access_kind, rules_of, whole_records}
 use Rattle.levels.specs.Levels.{Found, level_at}
-use Rattle.form.specs.PolicyTest.{policy_refusal, whole_tests}
+use Rattle.form.specs.PolicyTest.{policy_refusal, tests_from}
+use Rattle.form.specs.Theorems.{Tested}
 use Rattle.form.specs.WrittenForm.{Refusal, at}
 use Rattle.form.proofs.RefusalLaws.{rules_sized, tested}
-use Rattle.policy.specs.Types.{AcceptedWith, LevelsFound}
+use Rattle.policy.specs.Types.{AcceptedWith}
+use Rattle.policy.proofs.LoopLaws.{by_levels}
 
-module _ (bytes : List ℕ) (b : Bytes bytes) (found : Bool) (of : List ℕ) (f : Found (rules_of access_kind bytes) found of) where
-  pub whole_refused : found ≡ false → first_failed (whole_tests bytes) ≡ some (at 6 (whole_records bytes))
+module _ (bytes : List ℕ) (b : Bytes bytes) (l : length bytes ≤ 2304) (e : length bytes % 18 ≡ 0)
+    (r : none ≡ first_failed (tests_from bytes 0 (whole_records bytes))) where
+  -- no levels are found: the last test refuses
+  pub levels_none : Found (rules_of access_kind bytes) None → some (at 6 (whole_records bytes)) ≡ policy_refusal bytes
   unfolding first_failed
-  whole_refused e =
-      ap (λ (t : Bool). cond t none (some (at 6 (whole_records bytes))))
-      ((strata.none (rules_of access_kind bytes) (rules_sized bytes b access_kind)).1 (f.none e))
+  levels_none n =
+      by_levels bytes l e _ r
+      (sym (ap (λ (t : Bool). cond t none (some (at 6 (whole_records bytes))))
+      ((strata.none (rules_of access_kind bytes) (rules_sized bytes b access_kind)).1 n)))
 
-  pub whole_accepted : found ≡ true → first_failed (whole_tests bytes) ≡ none
+  -- levels are found: the policy is accepted
+  pub levels_some : (of : List ℕ) → Found (rules_of access_kind bytes) (Some of) → none ≡ policy_refusal bytes
   unfolding first_failed
-  whole_accepted e =
-      ap (λ (t : Bool). cond t none (some (at 6 (whole_records bytes))))
-      ((strata.exists (rules_of access_kind bytes) (rules_sized bytes b access_kind)).1 (record { lev = level_at of; levels = (f.levels e).kept }))
+  levels_some of f =
+      by_levels bytes l e _ r
+      (sym (ap (λ (t : Bool). cond t none (some (at 6 (whole_records bytes))))
+      ((strata.exists (rules_of access_kind bytes) (rules_sized bytes b access_kind)).1 (record { lev = level_at of; levels = f.kept }))))
 
--- a refused policy has none
-pub no_levels : (bytes : List ℕ) (o : Option Refusal) (r : Refusal) (of : List ℕ) → o ≡ some r → LevelsFound bytes o of
-no_levels bytes o r of e n = absurd (some-ne-none r (sym e ∙ n))
+  pub accepted_with : (of : List ℕ) → Found (rules_of access_kind bytes) (Some of) → AcceptedWith bytes of
+  accepted_with of f = record { form = (tested bytes b).accepts.0 (sym (levels_some of f)); levels = f }
 
-pub accepted_with : (bytes : List ℕ) → Bytes bytes → (o : Option Refusal) (of : List ℕ) → o ≡ policy_refusal bytes → LevelsFound bytes o of → o ≡ none
-    → AcceptedWith bytes of
-accepted_with bytes b o of e f n = record { form = (tested bytes b).accepts.0 (sym e ∙ n); levels = f n }
+pub meant : (bytes : List ℕ) → Bytes bytes → (o : Option Refusal) → o ≡ policy_refusal bytes → Tested bytes o
+meant bytes b o e = subst (Tested bytes) (sym e) (tested bytes b)

@@ -1,14 +1,11 @@
 // The policy's test (document 01, "Who can be turned back"; weights: document 02, R-2; levels: R-4).
 #![tactic(auto)]
 
-ghost use Rattle.std.specs.Prelude.{◌≡◌, ◌*◌, ◌≤◌, length};
-ghost use Rattle.std.proofs.Math.Option.{none, some};
+ghost use Rattle.std.specs.Prelude.{◌≡◌, ◌*◌, ◌≤◌, length, IfOk};
 ghost use Rattle.validation.specs.Tests.{first_failed};
-ghost use Rattle.records.specs.Records.{whole_records};
-ghost use Rattle.levels.specs.Levels.{AccessHeads};
-ghost use Rattle.form.specs.PolicyTest.{policy_refusal, tests_from, whole_tests};
+ghost use Rattle.form.specs.PolicyTest.{policy_refusal, tests_from};
 ghost use Rattle.form.specs.Theorems.{Tested};
-ghost use Rattle.policy.specs.Types.{AcceptedWith, LevelsFound, checked_of, refusal_of};
+ghost use Rattle.policy.specs.Types.{AcceptedWith, checked_of};
 
 use atoms::AtomSet;
 use levels::find_levels;
@@ -24,96 +21,52 @@ mod weights;
 // 128 records of 18 bytes.
 const MOST_BYTES: usize = 2304;
 
-// What the policy's test answers.
-#[derive(Clone, Copy)]
-pub enum Checked {
-    Accepted,
-    Refused(Refusal),
-}
-
-// What the policy's test answers, and a level for each atom, which an accepted policy's access rules keep.
-#[derive(Clone, Copy)]
-pub struct Examined {
-    pub checked: Checked,
-    pub levels: [u8; 64],
-}
-
 // The policy's test: accepted, or the first refusal that applies.
-pub fn check(policy: &[u8]) -> Checked
+#[tactic(auto, using(crate::proofs::WholeLaws::meant, encoding::proofs::ByteLaws::slice_bytes))]
+pub fn check(policy: &[u8]) -> Result<(), Refusal>
     ensures answer { checked_of result ≡ policy_refusal policy.now }
     ensures meaning { Tested policy.now (checked_of result) }
     ensures unchanged { policy.now ≡ policy.now }
 {
-    let examined = examine(policy);
-    examined.checked
+    examine(policy)?;
+    Ok(())
 }
 
-// The same, with the levels that the test has found.
-pub fn examine(policy: &[u8]) -> Examined
-    ensures answer { checked_of result.checked ≡ policy_refusal policy.now }
-    ensures levels { checked_of result.checked ≡ none → AcceptedWith policy.now result.levels }
+// The same, with a level for each atom, which an accepted policy's access rules keep.
+#[tactic(auto, using(crate::proofs::LoopLaws::too_long, crate::proofs::LoopLaws::not_whole, crate::proofs::LoopLaws::by_record, crate::proofs::WholeLaws::levels_none, encoding::proofs::ByteLaws::slice_bytes))]
+pub fn examine(policy: &[u8]) -> Result<[u8; 64], Refusal>
+    ensures answer { checked_of result ≡ policy_refusal policy.now }
+    ensures levels { IfOk result (λ levels. AcceptedWith policy.now levels) }
     ensures unchanged { policy.now ≡ policy.now }
 {
     let bytes = policy.len();
     if bytes > MOST_BYTES {
-        return refused(Refusal::TooLong);
+        return Err(Refusal::TooLong);
     }
     let records = bytes / 18;
+    let number = records as u8;
     if bytes % 18 != 0 {
-        let whole = records as u8;
-        return refused(Refusal::NotWhole(whole));
+        return Err(Refusal::NotWhole(number));
     }
-    let checked = check_records(policy, records);
-    let Checked::Refused(refusal) = checked else {
-        return levelled(policy, records);
+    check_records(policy, records)?;
+    // The last test: the access rules have levels.
+    let Some(levels) = find_levels(policy) else {
+        return Err(Refusal::Level(number));
     };
-    refused(refusal)
-}
-
-fn refused(refusal: Refusal) -> Examined
-    ensures { checked_of result.checked ≡ some (refusal_of refusal) }
-{
-    Examined {
-        checked: Checked::Refused(refusal),
-        levels: [0u8; 64],
-    }
-}
-
-// The last test: the access rules have levels.
-fn levelled(policy: &[u8], records: usize) -> Examined
-    requires { AccessHeads policy.now × ((records ≡ whole_records policy.now) × (records ≤ 128)) }
-    ensures answer { checked_of result.checked ≡ first_failed (whole_tests policy.now) }
-    ensures levels { LevelsFound policy.now (checked_of result.checked) result.levels }
-{
-    let found = find_levels(policy);
-    if !found.found {
-        let number = records as u8;
-        return refused(Refusal::Level(number));
-    }
-    let levels = found.of;
-    Examined {
-        checked: Checked::Accepted,
-        levels,
-    }
+    Ok(levels)
 }
 
 // The first refusal of the first `records` records, which are there.
-fn check_records(policy: &[u8], records: usize) -> Checked
+fn check_records(policy: &[u8], records: usize) -> Result<(), Refusal>
     requires { (18 * records ≤ length policy.now) × (records ≤ 128) }
     ensures { checked_of result ≡ first_failed (tests_from policy.now 0 records) }
 {
-    let mut k: usize = 0;
     // The credentials that the records before record k weigh.
     let mut weighed = AtomSet::EMPTY;
-    while k < records {
+    for k in 0..records {
         let parsed = record_at(policy, k);
-        let number = k as u8;
-        let checked = check_record(parsed, number, weighed);
-        let Checked::Accepted = checked else {
-            return checked;
-        };
+        check_record(parsed, k as u8, weighed)?;
         weighed = with_weighed(weighed, parsed);
-        k += 1;
     }
-    Checked::Accepted
+    Ok(())
 }

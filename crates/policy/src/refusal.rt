@@ -4,7 +4,7 @@ ghost use Rattle.form.specs.WrittenForm.{record_number, refusal_number};
 ghost use Rattle.policy.specs.Types.{refusal_of};
 
 // Why a policy is refused: each case but the first with a record's number, counted from 0, or a number of records.
-#[derive(Clone, Copy)]
+#[derive(Clone, Copy, Debug, PartialEq, Eq)]
 pub enum Refusal {
     // More than 2,304 bytes.
     TooLong,

@@ -5,42 +5,42 @@ ghost use Rattle.records.specs.Types.{record_of};
 ghost use Rattle.form.specs.PolicyTest.{AnswersRecord, access_body, access_head, at_record, credential_head, disclosure_body};
 ghost use Rattle.policy.specs.Types.{checked_of};
 
-use crate::Checked;
 use crate::refusal::Refusal;
 use crate::weights::{weight_body, weight_failed};
 use atoms::{AtomSet, FIRST_DERIVED, LAST_CREDENTIAL, VIOLATION};
-use records::{ACCESS, DISCLOSURE, Record, WEIGHT};
+use records::{Kind, Record};
 
 // The test of record k, where the records before it weigh these credentials.
-pub(crate) fn check_record(parsed: Record, k: u8, weighed: AtomSet) -> Checked
+pub(crate) fn check_record(parsed: Record, k: u8, weighed: AtomSet) -> Result<(), Refusal>
     ensures { AnswersRecord weighed.bits (record_of parsed) k (checked_of result) }
 {
-    let kind = parsed.kind;
+    let Ok(kind) = Kind::try_from(parsed.kind) else {
+        return Err(Refusal::Kind(k));
+    };
     match kind {
-        ACCESS => first_failed(access_head(parsed), access_body(parsed), k),
-        DISCLOSURE => first_failed(credential_head(parsed), disclosure_body(parsed), k),
-        WEIGHT => weight_failed(
+        Kind::Access => first_failed(access_head(parsed), access_body(parsed), k),
+        Kind::Disclosure => first_failed(credential_head(parsed), disclosure_body(parsed), k),
+        Kind::Weight => weight_failed(
             credential_head(parsed),
             weight_body(parsed),
             !weighed.contains(parsed.head),
             k,
         ),
-        _ => Checked::Refused(Refusal::Kind(k)),
     }
 }
 
-// The refusal of the first test that fails, at record k.
+// The refusal of the first test that fails, at record k. Not one with `weight_failed`, which has other refusals.
 #[tactic(auto, unfolding(validation::specs::Tests::first_failed, validation::specs::Tests::relabelled))]
-fn first_failed(head: bool, body: bool, k: u8) -> Checked
+fn first_failed(head: bool, body: bool, k: u8) -> Result<(), Refusal>
     ensures { checked_of result ≡ first_failed (at_record k ((head, 4) ∷ (body, 5) ∷ [])) }
 {
     if !head {
-        return Checked::Refused(Refusal::Head(k));
+        return Err(Refusal::Head(k));
     }
     if !body {
-        return Checked::Refused(Refusal::Body(k));
+        return Err(Refusal::Body(k));
     }
-    Checked::Accepted
+    Ok(())
 }
 
 // 16 to 63.

@@ -7,26 +7,25 @@ ghost use Rattle.records.specs.Types.{record_of};
 ghost use Rattle.form.specs.PolicyTest.{Weighed, at_record, weight_body};
 ghost use Rattle.policy.specs.Types.{checked_of};
 
-use crate::Checked;
 use crate::refusal::Refusal;
 use atoms::AtomSet;
 use records::{Record, WEIGHT};
 
 // The refusal of the first test of a weight that fails, at record k.
 #[tactic(auto, unfolding(validation::specs::Tests::first_failed, validation::specs::Tests::relabelled))]
-pub(crate) fn weight_failed(head: bool, body: bool, first: bool, k: u8) -> Checked
+pub(crate) fn weight_failed(head: bool, body: bool, first: bool, k: u8) -> Result<(), Refusal>
     ensures { checked_of result ≡ first_failed (at_record k ((head, 4) ∷ (body, 12) ∷ (first, 13) ∷ [])) }
 {
     if !head {
-        return Checked::Refused(Refusal::Head(k));
+        return Err(Refusal::Head(k));
     }
     if !body {
-        return Checked::Refused(Refusal::Weight(k));
+        return Err(Refusal::Weight(k));
     }
     if !first {
-        return Checked::Refused(Refusal::SecondWeight(k));
+        return Err(Refusal::SecondWeight(k));
     }
-    Checked::Accepted
+    Ok(())
 }
 
 // A weight of 0 to 15, and no negated set.

@@ -1,18 +1,16 @@
 // What a policy's bytes say: records, read and written (document 01, "Atoms and records"; weights: document 02, R-2).
 #![tactic(auto)]
 
-ghost use Rattle.std.specs.Prelude.{◌≡◌, ◌*◌, ◌+◌, ◌<◌, ◌≤◌, length};
-ghost use Rattle.encoding.specs.LittleEndian.{word_of};
+ghost use Rattle.std.specs.Prelude.{◌≡◌, ◌*◌, ◌+◌, ◌≤◌, length};
+ghost use Rattle.encoding.specs.LittleEndian.{little_endian};
 ghost use Rattle.records.specs.Records.{read_part, record_at};
 ghost use Rattle.records.specs.Types.{record_of};
 
 use atoms::AtomSet;
 
-pub const ACCESS: u8 = 1;
+mod kind;
 
-pub const DISCLOSURE: u8 = 2;
-
-pub const WEIGHT: u8 = 3;
+pub use kind::{ACCESS, DISCLOSURE, Kind, UnknownKind, WEIGHT};
 
 // A policy's record.
 #[derive(Clone, Copy)]
@@ -34,6 +32,7 @@ pub fn record_at(policy: &[u8], k: usize) -> Record
 }
 
 // The record that the first 18 bytes say; of fewer bytes a blank one, whose kind is 0.
+#[tactic(auto, unfolding(crate::specs::Records::read_record))]
 pub fn read_record(bytes: &[u8]) -> Record
     ensures answer { record_of result ≡ read_part bytes.now }
     ensures unchanged { bytes.now ≡ bytes.now }
@@ -46,36 +45,21 @@ pub fn read_record(bytes: &[u8]) -> Record
             negated: AtomSet::EMPTY,
         };
     }
-    let kind = bytes[0];
-    let head = bytes[1];
-    let positive = word(&bytes[2..10]);
-    let negated = word(&bytes[10..18]);
     Record {
-        kind,
-        head,
-        positive: AtomSet { bits: positive },
-        negated: AtomSet { bits: negated },
+        kind: bytes[0],
+        head: bytes[1],
+        positive: set_of(&bytes[2..10]),
+        negated: set_of(&bytes[10..18]),
     }
 }
 
-// The little-endian number of eight bytes.
-fn word(bytes: &[u8]) -> u64
+// The set whose number eight bytes give, little-endian.
+#[tactic(auto, using(encoding::proofs::StdLaws::from_le_8))]
+fn set_of(bytes: &[u8]) -> AtomSet
     requires { length bytes.now ≡ 8 }
-    ensures { result ≡ word_of bytes.now }
+    ensures { result.bits ≡ little_endian bytes.now }
 {
-    let mut number = wide(bytes[7]);
-    number = wide(bytes[6]) + 256 * number;
-    number = wide(bytes[5]) + 256 * number;
-    number = wide(bytes[4]) + 256 * number;
-    number = wide(bytes[3]) + 256 * number;
-    number = wide(bytes[2]) + 256 * number;
-    number = wide(bytes[1]) + 256 * number;
-    wide(bytes[0]) + 256 * number
-}
-
-// A byte, widened.
-fn wide(byte: u8) -> u64
-    ensures { (result ≡ byte) × (result < 256) }
-{
-    byte as u64
+    AtomSet {
+        bits: u64::from_le_bytes(bytes.try_into().unwrap()),
+    }
 }

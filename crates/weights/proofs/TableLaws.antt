@@ -14,6 +14,8 @@ use Rattle.atoms.specs.Atoms.{last_credential}
 use Rattle.rules.specs.Weights.{WeightTable, weight_among}
 use Rattle.records.specs.Policies.{policy_of}
 use Rattle.records.specs.Records.{Record, of_kind, read_record, record_at, records_from, records_of, rules_of, weight_kind, whole_records}
+use Rattle.form.specs.WrittenForm.{WellFormed}
+use Rattle.form.proofs.PolicyLaws.{weight_record}
 
 -- ws has at place k what the records give credential k
 abbrev Table : List Record → List ℕ → Type 0
@@ -29,6 +31,12 @@ pub kind_byte : (bytes : List ℕ) (k : ℕ) → (record_at bytes k).kind ≡ ge
 unfolding read_record
 kind_byte bytes k =
     get_or-take 18 (drop (18 * k) bytes) 0 0 (omega arith) ∙ get_or-drop (18 * k) bytes 0 0 ∙ ap (λ (i : ℕ). get_or bytes i 0) (omega arith)
+
+-- a record whose first byte says a weight names a credential, and has a small number for its positive set
+pub weight_read : (bytes : List ℕ) → WellFormed bytes → (k : ℕ) → k < whole_records bytes → get_or bytes (18 * k) 0 ≡ weight_kind
+    → (d : Record) → d ≡ record_at bytes k → (d.rule.head ≤ last_credential) × (d.rule.positive ≤ 15)
+weight_read bytes w k l e d is =
+    subst (λ (x : Record). (x.rule.head ≤ last_credential) × (x.rule.positive ≤ 15)) (sym is) (weight_record bytes w k l (kind_byte bytes k ∙ e))
 
 module _ (d : Record) (ds : List Record) (ws : List ℕ) (h : Table ds ws) where
   -- a record of another kind
@@ -59,7 +67,6 @@ module _ (d : Record) (ds : List Record) (ws : List ℕ) (h : Table ds ws) where
 
 -- the records from record k on have been read
 pub record Reading (bytes : List ℕ) (k : ℕ) (ws : List ℕ) : Type 0 where
-  pub few : k ≤ whole_records bytes
   pub long : length ws ≡ 16
   pub table : Table (records_from bytes k (whole_records bytes - k)) ws
 
@@ -69,9 +76,9 @@ module _ (bytes : List ℕ) where
   unfolding records_from
   reading_start =
       let e : whole_records bytes - whole_records bytes ≡ 0 = omega arith in
-      record { few = omega arith; long = refl; table = rw e table_start }
+      record { long = refl; table = rw e table_start }
 
-  module _ (k : ℕ) (ws : List ℕ) (h : Reading bytes k ws) (p : 0 < k) where
+  module _ (k : ℕ) (ws : List ℕ) (h : Reading bytes k ws) (p : 0 < k) (few : k ≤ whole_records bytes) where
     -- those from the one before on
     abbrev these : List Record
     these = records_from bytes k (whole_records bytes - k)
@@ -79,27 +86,27 @@ module _ (bytes : List ℕ) where
     one_more : record_at bytes (k - 1) ∷ these ≡ records_from bytes (k - 1) (whole_records bytes - (k - 1))
     unfolding records_from
     one_more =
-        let e : whole_records bytes - (k - 1) ≡ suc (whole_records bytes - k) = omega (arith, h.few) in
+        let e : whole_records bytes - (k - 1) ≡ suc (whole_records bytes - k) = omega arith in
         let s : suc (k - 1) ≡ k = omega arith in
         rw (e, s) refl
 
-    pub reading_other : (record_at bytes (k - 1)).kind ≢ weight_kind → Reading bytes (k - 1) ws
+    pub reading_other : get_or bytes (18 * (k - 1)) 0 ≢ weight_kind → Reading bytes (k - 1) ws
     reading_other n = record {
-      few = omega (arith, h.few);
       long = h.long;
-      table = subst (λ (ds : List Record). Table ds ws) one_more (table_other (record_at bytes (k - 1)) these ws h.table n);
+      table = subst (λ (ds : List Record). Table ds ws) one_more (table_other (record_at bytes (k - 1)) these ws h.table (λ e. n (sym (kind_byte bytes (k - 1)) ∙ e)));
     }
 
-    pub reading_weight : (record_at bytes (k - 1)).kind ≡ weight_kind → (record_at bytes (k - 1)).rule.head ≤ last_credential → (d : Record)
-        → d ≡ record_at bytes (k - 1) → Reading bytes (k - 1) (set ws d.rule.head d.rule.positive)
-    reading_weight e low d is = subst (λ (x : Record). Reading bytes (k - 1) (set ws x.rule.head x.rule.positive)) (sym is) (record {
-      few = omega (arith, h.few);
-      long = length-set ws (record_at bytes (k - 1)).rule.head (record_at bytes (k - 1)).rule.positive ∙ h.long;
-      table = λ j l. subst (λ (ds : List Record). Table ds (set ws (record_at bytes (k - 1)).rule.head (record_at bytes (k - 1)).rule.positive)) one_more
-          (table_weight (record_at bytes (k - 1)) these ws h.table h.long e low) j l;
-    })
+    pub reading_weight : get_or bytes (18 * (k - 1)) 0 ≡ weight_kind → (d : Record) → d.rule.head ≤ last_credential → d ≡ record_at bytes (k - 1)
+        → Reading bytes (k - 1) (set ws d.rule.head d.rule.positive)
+    reading_weight e d low is =
+        let kind : d.kind ≡ weight_kind = ap (λ (x : Record). x.kind) is ∙ kind_byte bytes (k - 1) ∙ e in
+        let one : d ∷ these ≡ records_from bytes (k - 1) (whole_records bytes - (k - 1)) = ap (λ (x : Record). x ∷ these) is ∙ one_more in
+        record {
+          long = length-set ws d.rule.head d.rule.positive ∙ h.long;
+          table = subst (λ (ds : List Record). Table ds (set ws d.rule.head d.rule.positive)) one (table_weight d these ws h.table h.long kind low);
+        }
 
   -- all of them
-  pub reading_done : (ws : List ℕ) → Reading bytes 0 ws → WeightTable (policy_of bytes) ws
+  pub reading_done : (k : ℕ) (ws : List ℕ) → k ≤ 0 → Reading bytes k ws → WeightTable (policy_of bytes) ws
   unfolding rules_of records_of
-  reading_done ws h = subst (λ (n : ℕ). Table (records_from bytes 0 n) ws) (omega arith) h.table
+  reading_done k ws z h = subst (λ (j : ℕ). Table (records_from bytes j (whole_records bytes)) ws) (omega arith) (subst (λ (n : ℕ). Table (records_from bytes k n) ws) (omega arith) h.table)

@@ -14,9 +14,8 @@ pub fn weight_table(policy: &[u8]) -> [u8; 16]
 {
     // Unnamed ones weigh 1.
     let mut weights = [1u8; 16];
-    let mut k = policy.len() / 18;
-    while k > 0 {
-        k -= 1;
+    for k in (0..policy.len() / 18).rev() {
+        // Its first byte tells a weight: other records are not read.
         if policy[18 * k] == WEIGHT {
             let parsed = record_at(policy, k);
             weights[parsed.head as usize] = parsed.positive.bits as u8;

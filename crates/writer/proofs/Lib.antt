@@ -1,2 +1,2 @@
--- The laws of copying.
-pub mod CopyLaws
+-- The law of a record in its place.
+pub mod PlaceLaws

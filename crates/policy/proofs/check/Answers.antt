@@ -1,15 +1,11 @@
--- `policy::check` meets its contract: an answer that is the test's has its meaning, and the bytes are as they were. Assumes nothing.
-use mathlib.Core.Path.{refl, subst, sym}
+-- `policy::check` meets its contract: a refusal has the meaning of the test's. Assumes nothing.
+use Rattle.std.proofs.lemmas.Result.{err_from_is_err_and}
 use Rattle.encoding.proofs.ByteLaws.{slice_bytes}
-use Rattle.form.specs.Theorems.{Tested}
-use Rattle.form.proofs.RefusalLaws.{tested}
+use Rattle.policy.proofs.WholeLaws.{meant}
 use Rattle.policy.proofs.check.Goals as goal
 
-pub returns : goal.returns
-returns c =
+pub returns-in_err-examine-clause-meaning : goal.returns-in_err-examine-clause-meaning
+returns-in_err-examine-clause-meaning c =
     let bytes = c.args.policy.now in
-    let e = c.examine-examined.ensures.answer in record {
-      answer = e;
-      meaning = subst (Tested bytes) (sym e) (tested bytes (slice_bytes bytes c.type_inv.policy));
-      unchanged = refl;
-    }
+    let p = err_from_is_err_and c.from_residual.result c.from_residual.ensures.1 in
+    rw (p.1, p.2) (meant bytes (slice_bytes bytes c.type_inv.policy) _ c.in_err-examine.ensures.answer)

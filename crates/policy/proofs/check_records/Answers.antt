@@ -1,67 +1,36 @@
--- `policy::check_records` meets its contract. The loop's invariant: the first refusal of all records is that of those that are left, and the set has the
--- credentials that those before weigh. The measure is the number of those left. Assumes nothing.
-use mathlib.Core.Path.{◌∙◌, ◌≡◌, ap, sym}
-use Prim.Native.Nat.{ℕ}
-use native.Mathlib.Omega.{arith}
-use Rattle.validation.specs.Tests.{first_failed}
-use Rattle.records.specs.Records.{Record, records_from}
+-- `policy::check_records` meets its contract. Assumes nothing.
+use mathlib.Core.Path.{◌∙◌}
+use Rattle.std.proofs.Common.{rules, arith}
+use Rattle.std.proofs.lemmas.Result.{err_from_is_err_and}
+use Rattle.records.specs.Records.{records_from}
 use Rattle.records.specs.Types.{record_of}
-use Rattle.form.specs.PolicyTest.{at_record, record_tests, tests_at, tests_from}
-use Rattle.policy.specs.Types.{checked_of}
-use Rattle.policy.proofs.LoopLaws.{records_accepted, records_done, records_refused}
+use Rattle.policy.proofs.LoopLaws.{answered, records_accepted, records_done, records_refused}
 use Rattle.policy.proofs.WeighedLaws.{accepted_head, weighed_next, weighed_none}
 use Rattle.policy.proofs.check_records.Goals as goal
 
 pub loop-k-init : goal.loop-k-init
-loop-k-init c =
-    record {
-      inside = omega arith;
-      refusal = ap (λ (n : ℕ). first_failed (tests_from c.args.policy.now 0 n)) (omega arith);
-      weighs = weighed_none c.args.policy.now;
-    }
+loop-k-init c = record { refusal = search rules; weighs = weighed_none c.args.policy.now }
 
-pub returns-in_default : goal.returns-in_default
-returns-in_default c =
-    let answer : checked_of c.check_record-checked.result
-    ≡ first_failed (tests_at c.args.policy.now c.loop-k.k) =
+pub returns-in_err-check_record : goal.returns-in_err-check_record
+returns-in_err-check_record c =
+    let l = c.loop-k in
     let bytes = c.args.policy.now in
-    let l = c.loop-k in
-    c.check_record-checked.ensures (records_from bytes 0 l.k) l.invariant.weighs
-    ∙ ap (λ (d : Record). first_failed (at_record l.k (record_tests (records_from bytes 0 l.k) d))) c.record_at-parsed.ensures in
-    let a = c.args in
-    let l = c.loop-k in
-    let refused = ap checked_of c.in_default.is in
-    refused
-    ∙ sym (l.invariant.refusal
-    ∙ records_refused a.policy.now l.k a.records c.loop-k-test.true _ (sym answer ∙ refused))
+    let p = err_from_is_err_and c.from_residual.result c.from_residual.ensures.1 in
+    rw (p.1, p.2, l.invariant.refusal)
+    (records_refused bytes l.k c.args.records (omega arith) _
+    (answered bytes l.k _ _ _ c.in_err-check_record.ensures l.invariant.weighs c.record_at-parsed.ensures))
 
 pub with_weighed-weighed-requires : goal.with_weighed-weighed-requires
 with_weighed-weighed-requires c =
-    let l = c.loop-k in
-    let before = records_from c.args.policy.now 0 l.k in
-    accepted_head before (record_of c.record_at-parsed.result) l.k
-    (sym (c.check_record-checked.ensures before l.invariant.weighs) ∙ ap checked_of c.in-Accepted.is)
+    accepted_head (records_from c.args.policy.now 0 c.loop-k.k) (record_of c.record_at-parsed.result) c.loop-k.k (search rules)
 
 pub loop-k-preserved : goal.loop-k-preserved
 loop-k-preserved c =
-    let answer : checked_of c.check_record-checked.result
-    ≡ first_failed (tests_at c.args.policy.now c.loop-k.k) =
-    let bytes = c.args.policy.now in
-    let l = c.loop-k in
-    c.check_record-checked.ensures (records_from bytes 0 l.k) l.invariant.weighs
-    ∙ ap (λ (d : Record). first_failed (at_record l.k (record_tests (records_from bytes 0 l.k) d))) c.record_at-parsed.ensures in
-    let a = c.args in
-    let l = c.loop-k in
-    let accepted = sym answer ∙ ap checked_of c.in-Accepted.is in
+    let answer = answered c.args.policy.now _ _ _ _ c.in_ok-check_record.ensures c.loop-k.invariant.weighs c.record_at-parsed.ensures in
     record {
-      inside = omega arith;
-      refusal = l.invariant.refusal ∙ records_accepted a.policy.now l.k a.records c.loop-k-test.true accepted;
-      weighs = weighed_next a.policy.now l.k c.with_weighed-weighed.result.bits
-          (rw c.record_at-parsed.ensures at (c.with_weighed-weighed.ensures (records_from a.policy.now 0 l.k) l.invariant.weighs));
+      refusal = c.loop-k.invariant.refusal ∙ records_accepted _ _ _ (omega arith) (search rules);
+      weighs = weighed_next _ _ _ (rw c.record_at-parsed.ensures at (c.with_weighed-weighed.ensures (records_from _ 0 _) c.loop-k.invariant.weighs));
     }
 
 pub returns : goal.returns
-returns c =
-    let a = c.args in
-    let l = c.loop-k in
-    sym (l.invariant.refusal ∙ records_done a.policy.now l.k a.records c.loop-k-test.false)
+returns c = rw c.loop-k.invariant.refusal (records_done _ c.loop-k.k _ (omega arith))

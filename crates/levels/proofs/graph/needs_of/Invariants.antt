@@ -1,9 +1,6 @@
--- `levels::graph::needs_of` meets its contract: what is left of the set says the rest. Assumes nothing.
+-- `levels::graph::needs_of` meets its contract: the atoms that it has come to say the rest. Assumes nothing.
 use Rattle.levels.proofs.MemberLaws.{Needing}
 use Rattle.levels.proofs.graph.needs_of.Given as goal
 
-abbrev pub invariant-loop-left : goal.invariant-loop-left
-invariant-loop-left l = Needing l.rows l.initial.left l.left l.needs.bits
-
-abbrev pub decreases-loop-left : goal.decreases-loop-left
-decreases-loop-left l = l.left
+abbrev pub invariant-loop-h : goal.invariant-loop-h
+invariant-loop-h l = Needing l.rows l.yielded l.needs.bits

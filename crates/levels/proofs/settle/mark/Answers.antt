@@ -1,23 +1,14 @@
--- `levels::settle::mark` meets its contract: the members that are left say the rest. Assumes nothing.
+-- `levels::settle::mark` meets its contract: the members that it has come to say the rest. Assumes nothing.
 use native.Mathlib.Omega.{arith}
-use Rattle.atoms.proofs.LowestLaws.{lowest_fits, rest_less}
-use Rattle.levels.proofs.MemberLaws.{marking_done, marking_next, marking_start}
+use Rattle.atoms.proofs.ListedLaws.{first_low}
+use Rattle.atoms.proofs.LoopLaws.{all_members}
+use Rattle.levels.proofs.MemberLaws.{marking_done, marking_next}
 use Rattle.levels.proofs.settle.mark.Goals as goal
 
-pub loop-left-init : goal.loop-left-init
-loop-left-init c = marking_start _ _ _ (omega arith) c.requires
-
-pub overflow_cast-k : goal.overflow_cast-k
-overflow_cast-k c = omega (arith, lowest_fits _ c.loop-left-test.true c.loop-left.invariant.rest.small)
-
-pub bounds-of-k : goal.bounds-of-k
-bounds-of-k c = omega (arith, lowest_fits _ c.loop-left-test.true c.loop-left.invariant.rest.small)
-
-pub loop-left-smaller : goal.loop-left-smaller
-loop-left-smaller c = rest_less _ c.loop-left-test.true c.loop-left.invariant.rest.small
-
-pub loop-left-preserved : goal.loop-left-preserved
-loop-left-preserved c = marking_next _ _ _ _ _ c.loop-left.invariant c.loop-left-test.true
+pub loop-k-preserved : goal.loop-k-preserved
+loop-k-preserved c = marking_next _ _ _ _ c.loop-k.invariant c.in-Some.k (first_low _ _ _ c.in-Some.ensures.steps)
 
 pub returns : goal.returns
-returns c = marking_done _ _ _ _ _ c.loop-left.invariant c.loop-left-test.false
+returns c =
+    marking_done _ _ _ _ c.loop-k.invariant c.args.members.bits
+    (all_members c.args.members.bits c.into_iter-k-iterator.result (cc) c.loop-k.yielded _ c.loop-k.yielded_by (omega arith) _ _ c.in-None.is c.next.ensures.steps)

@@ -4,6 +4,3 @@ use Rattle.levels.proofs.settle.over.Given as goal
 
 abbrev pub invariant-loop-level : goal.invariant-loop-level
 invariant-loop-level l = Over l.at l.count l.set.bits l.level
-
-abbrev pub decreases-loop-level : goal.decreases-loop-level
-decreases-loop-level l = l.level
