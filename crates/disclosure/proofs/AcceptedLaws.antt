@@ -1,7 +1,7 @@
 -- The disclosure rules of a policy of the written form. Assumes nothing.
-use mathlib.Core.Path.{◌∙◌, ◌≡◌, ap₂}
+use mathlib.Core.Path.{◌≡◌}
 use mathlib.Core.List.{List}
-use Prim.Native.Nat.{ℕ}
+use Prim.Native.Nat.{◌<◌, ◌^◌, ℕ}
 use Rattle.encoding.specs.LittleEndian.{Bytes}
 use Rattle.lists.specs.Lists.{Every}
 use Rattle.lists.proofs.ListLaws.{every_imp}
@@ -9,7 +9,6 @@ use Rattle.atoms.specs.Sets.{empty}
 use Rattle.atoms.proofs.SetLaws.{none_is_empty}
 use Rattle.rules.specs.LevelByLevel.{settle}
 use Rattle.rules.specs.Policy.{Policy}
-use Rattle.rules.specs.Rules.{Rule}
 use Rattle.rules.specs.Stable.{Closed, Least}
 use Rattle.rules.proofs.LeastLaws.{least_unique}
 use Rattle.rules.proofs.LoopLaws.{settle_positive}
@@ -31,11 +30,14 @@ module _ (bytes : List ℕ) (b : Bytes bytes) (w : WellFormed bytes) where
   disclosure_positive =
       every_imp DisclosureBody (λ r. r.negated ≡ empty) (λ r h. none_is_empty r.negated h.1) pol.disclosure (disclosure_bodies bytes b w)
 
-  -- so that they settle on the disclosable set: X, from a shown set S that is P
-  pub settled_disclosable : (qs : List Rule) → qs ≡ (policy_of bytes).disclosure → (S P X : ℕ) → S ≡ P → X ≡ settle qs S
-      → X ≡ disclosable (policy_of bytes) P
+  -- so that they settle on the disclosable set
+  pub settled_disclosable : (P : ℕ) → settle (policy_of bytes).disclosure P ≡ disclosable (policy_of bytes) P
   unfolding disclosable
-  settled_disclosable qs q S P X e x = x ∙ ap₂ settle q e ∙ settle_positive pol.disclosure disclosure_positive P
+  settled_disclosable P = settle_positive pol.disclosure disclosure_positive P
+
+  -- which is a set of credentials, as what is shown is
+  pub low_disclosable : (P : ℕ) → P < 2 ^ 16 → disclosable (policy_of bytes) P < 2 ^ 16
+  low_disclosable = D.disclosable_credentials pol (disclosure_heads bytes b w)
 
   pub accepted : OfWellFormed bytes
   accepted =

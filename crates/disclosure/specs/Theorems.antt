@@ -1,5 +1,5 @@
 -- The theorems of the disclosable set. Assumes nothing.
-use Rattle.std.specs.Prelude.{◌≡◌, ◌↔◌, ◌⊎◌, List, ◌*◌, ◌+◌, ◌<◌, ◌^◌, ◌≤◌, ℕ, length}
+use Rattle.std.specs.Prelude.{◌≡◌, ◌↔◌, ◌⊎◌, List, ◌*◌, ◌+◌, ◌<◌, ◌^◌, ◌≤◌, ℕ, length, Result}
 use Rattle.encoding.specs.LittleEndian.{Bytes}
 use Rattle.validation.specs.Unless.{Unless}
 use Rattle.atoms.specs.Atoms.{last_credential}
@@ -8,14 +8,14 @@ use Rattle.rules.specs.Stable.{Closed, Least}
 use Rattle.records.specs.Policies.{policy_of}
 use Rattle.records.specs.Records.{disclosure_kind, record_at}
 use Rattle.form.specs.Answers.{Gives}
-use Rattle.form.specs.WrittenForm.{Refusal, WellFormed}
+use Rattle.form.specs.WrittenForm as W
+use Rattle.policy.specs.declared.refusal.Refusal.{Refusal}
 use Rattle.disclosure.specs.Answers.{disclosable_answer}
 use Rattle.disclosure.specs.Disclosure.{Askable, Disclosable, askable, disclosable}
 use Rattle.disclosure.specs.Types.{disclosed_of}
-use Rattle.disclosure.specs.declared.Disclosed.{Disclosed}
 
 -- "the least set that holds P and is closed under the disclosure rules"
-abbrev pub GivesDisclosable : List ℕ → ℕ → Unless Refusal ℕ → Type 0
+abbrev pub GivesDisclosable : List ℕ → ℕ → Unless W.Refusal ℕ → Type 0
 GivesDisclosable bytes P = Gives bytes (Least (Closed (policy_of bytes).disclosure P))
 
 -- record j discloses credential k
@@ -40,7 +40,7 @@ pub record OfWellFormed (bytes : List ℕ) : Type 0 where
   pub credentials : (P : ℕ) → P < 2 ^ 16 → disclosable (policy_of bytes) P < 2 ^ 16
 
 pub record Theorems : Type 0 where
-  pub accepted : (bytes : List ℕ) → Bytes bytes → WellFormed bytes → OfWellFormed bytes
+  pub accepted : (bytes : List ℕ) → Bytes bytes → W.WellFormed bytes → OfWellFormed bytes
   pub disclosables : (bytes : List ℕ) → Bytes bytes → (P : ℕ) → GivesDisclosable bytes P (disclosable_answer bytes P)
   -- what the program's answer means is one-to-one, so that a contract through this map fixes the answer
-  pub one_to_one : (x y : Disclosed) → disclosed_of x ≡ disclosed_of y → x ≡ y
+  pub one_to_one : (x y : Result ℕ Refusal) → disclosed_of x ≡ disclosed_of y → x ≡ y

@@ -3,20 +3,13 @@ ghost use Rattle.std.specs.Prelude.{◌≡◌, ◌-◌};
 ghost use Rattle.rules.specs.LevelByLevel.{settle};
 ghost use Rattle.arrays.specs.Arrays.{Span, rules_in};
 
+use arrays::RuleArrays;
 use atoms::AtomSet;
 
 // What the rules at places `from` to `to` make of a set. "Not" is read of the set as it was before them.
-pub fn close<'a>(
-    heads: &'a [u64; 128],
-    positive: &'a [u64; 128],
-    negated: &'a [u64; 128],
-    from: usize,
-    to: usize,
-    set: AtomSet,
-) -> AtomSet
-    requires { Span from to heads.now }
-    ensures { result.bits ≡ settle (rules_in heads.now positive.now negated.now from (to - from)) set.bits }
+pub fn close(rules: &RuleArrays, from: usize, to: usize, set: AtomSet) -> AtomSet
+    requires { Span from to rules.now.heads }
+    ensures { result.bits ≡ settle (rules_in rules.now.heads rules.now.positive rules.now.negated from (to - from)) set.bits }
 {
-    let fixpoint = fixpoint::close(heads, positive, negated, from, to, set);
-    fixpoint.set
+    fixpoint::close(rules, from, to, set).set
 }

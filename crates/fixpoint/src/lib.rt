@@ -2,13 +2,14 @@
 // `evaluation` gives the set alone, and only a program that prints counts calls this crate beside.
 #![tactic(auto)]
 
-ghost use Rattle.std.specs.Prelude.{◌≡◌, ◌&&◌, cond, ◌-◌, ◌<◌, get_or};
-ghost use Rattle.atoms.specs.Sets.{disjoint, subset, union};
+ghost use Rattle.std.specs.Prelude.{◌≡◌, ◌&&◌, ◌-◌};
+ghost use Rattle.atoms.specs.Sets.{disjoint, subset};
 ghost use Rattle.rules.specs.LevelByLevel.{pass_over, settle};
 ghost use Rattle.iteration.specs.Counting.{rule_pass_count};
 ghost use Rattle.iteration.specs.IdlePasses.{RulesClosedIn};
 ghost use Rattle.arrays.specs.Arrays.{Span, rules_in};
 
+use arrays::RuleArrays;
 use atoms::AtomSet;
 
 // A set that a pass has left as it was, and the count of passes up to that one.
@@ -19,26 +20,21 @@ pub struct Fixpoint {
 }
 
 // What the rules at places `from` to `to` make of a set. "Not" is read of the set as it was before them.
-pub fn close<'a>(
-    heads: &'a [u64; 128],
-    positive: &'a [u64; 128],
-    negated: &'a [u64; 128],
-    from: usize,
-    to: usize,
-    set: AtomSet,
-) -> Fixpoint
-    requires { Span from to heads.now }
-    ensures set { result.set.bits ≡ settle (rules_in heads.now positive.now negated.now from (to - from)) set.bits }
-    ensures passes { result.passes ≡ rule_pass_count (rules_in heads.now positive.now negated.now from (to - from)) set.bits }
-    ensures count { RulesClosedIn (rules_in heads.now positive.now negated.now from (to - from)) set.bits result.set.bits
+pub fn close(rules: &RuleArrays, from: usize, to: usize, set: AtomSet) -> Fixpoint
+    requires { Span from to rules.now.heads }
+    ensures set { result.set.bits ≡ settle (rules_in rules.now.heads rules.now.positive rules.now.negated from (to - from)) set.bits }
+    ensures passes { result.passes ≡ rule_pass_count (rules_in rules.now.heads rules.now.positive rules.now.negated from (to - from)) set.bits }
+    ensures count { RulesClosedIn (rules_in rules.now.heads rules.now.positive rules.now.negated from (to - from)) set.bits result.set.bits
         result.passes }
 {
     let mut reached = set;
     let mut passes: u8 = 0;
+    // No range: how many passes there are is found out here. Not one loop with `lane_fixpoint::close`, whose pass changes a table in place and says what it
+    // added: a trait over the two would say more than both loops.
     loop {
-        let next = pass(heads, positive, negated, from, to, set, reached);
+        let next = pass(rules, from, to, set, reached);
         passes += 1;
-        if next.bits == reached.bits {
+        if next == reached {
             return Fixpoint { set: next, passes };
         }
         reached = next;
@@ -46,58 +42,29 @@ pub fn close<'a>(
 }
 
 // One pass over the rules at places `from` to `to`. "Not" is read of `below`.
-fn pass<'a>(
-    heads: &'a [u64; 128],
-    positive: &'a [u64; 128],
-    negated: &'a [u64; 128],
-    from: usize,
-    to: usize,
-    below: AtomSet,
-    set: AtomSet,
-) -> AtomSet
-    requires { Span from to heads.now }
-    ensures { result.bits ≡ pass_over below.bits (rules_in heads.now positive.now negated.now from (to - from)) set.bits }
+fn pass(rules: &RuleArrays, from: usize, to: usize, below: AtomSet, set: AtomSet) -> AtomSet
+    requires { Span from to rules.now.heads }
+    ensures { result.bits ≡ pass_over below.bits (rules_in rules.now.heads rules.now.positive rules.now.negated from (to - from)) set.bits }
 {
     let mut reached = set;
-    let mut k = from;
-    while k < to {
-        let all = positive[k];
-        let none = negated[k];
-        reached = fire(
-            heads,
-            k,
-            AtomSet { bits: all },
-            AtomSet { bits: none },
-            below,
-            reached,
-        );
-        k += 1;
+    for k in from..to {
+        let positive = AtomSet {
+            bits: rules.positive[k],
+        };
+        let negated = AtomSet {
+            bits: rules.negated[k],
+        };
+        if body_holds(positive, negated, below, reached) {
+            reached = reached.union(AtomSet {
+                bits: rules.heads[k],
+            });
+        }
     }
     reached
 }
 
-// The rule at place k: its head is read and added where its body holds.
-fn fire(
-    heads: &[u64; 128],
-    k: usize,
-    positive: AtomSet,
-    negated: AtomSet,
-    below: AtomSet,
-    set: AtomSet,
-) -> AtomSet
-    requires { k < 128 }
-    ensures { result.bits ≡ cond (disjoint negated.bits below.bits && subset positive.bits set.bits)
-        (union set.bits (get_or heads.now k 0)) set.bits }
-{
-    if body_holds(positive, negated, below, set) {
-        let head = heads[k];
-        set.union(AtomSet { bits: head })
-    } else {
-        set
-    }
-}
-
 // All of the positive part in the set, and none of the negated part in `below`: one test of what is amiss.
+#[tactic(auto, using(crate::proofs::BodyLaws::nothing_amiss))]
 fn body_holds(positive: AtomSet, negated: AtomSet, below: AtomSet, set: AtomSet) -> bool
     ensures { result ≡ (disjoint negated.bits below.bits && subset positive.bits set.bits) }
 {

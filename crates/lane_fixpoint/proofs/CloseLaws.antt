@@ -3,7 +3,7 @@ use mathlib.Core.Path.{◌∙◌, ◌≡◌, ap, ap₂, subst, sym}
 use mathlib.Core.Logic.{◌≢◌}
 use mathlib.Core.List.{List}
 use Prim.Native.Nat.{◌%◌, ◌*◌, ◌+◌, ◌-◌, ◌/◌, ◌<◌, ◌≤◌, ℕ}
-use lib.ListN.{get_or, length}
+use lib.ListN.{get_or}
 use native.Mathlib.Omega.{arith}
 use Rattle.atoms.specs.Sets.{Member, bit, disjoint, member}
 use Rattle.rules.specs.LevelByLevel.{pass_over, settle}
@@ -47,7 +47,6 @@ module _ (heads positive negated : List ℕ) (from n : ℕ) where
   pass_from first j = pass_over (lane_at first j) rules
 
   pub record Closing (first table : List ℕ) (passes : ℕ) : Type 0 where
-    pub long : length table ≡ 768
     pub says : EachLane (λ t i. Says negated table from n t i (lane first t i))
     pub running : Running 256 (pass_from first) (lane_at first) (lane_at table) passes
 
@@ -73,7 +72,6 @@ module _ (heads positive negated : List ℕ) (from n : ℕ) where
 
     pub closing_next : progress.added ≢ 0 → Closing first after (passes + 1)
     closing_next adds = record {
-      long = p.long;
       says = λ t i l m k a b. ap (λ (x : ℕ). member i x) (p.kept t k l) ∙ c.says t i l m k a b;
       running =
           running_next 256 (pass_from first) (lane_at first) (lane_at table) (lane_at after) passes c.running next (not_same table after (p.adds adds));
@@ -99,7 +97,6 @@ stale_none heads positive from to delta table = record { each = λ k a b z. absu
 module _ (heads positive negated : List ℕ) (from to : ℕ) (before first : List ℕ) (low : from ≤ to) (u : Reduced negated from to before first) where
   pub closing_first : Closing heads positive negated from (to - from) first first 0
   closing_first = record {
-    long = u.long;
     says = λ t i l n k a b. u.says t i l n k a (omega arith) ∙ ap (disjoint (get_or negated k 0)) (sym (u.same t i l n));
     running = running_first 256 _ (lane_at first);
   }
@@ -118,9 +115,8 @@ module _ (heads positive negated : List ℕ) (from to : ℕ) (before first : Lis
     unfolding lane_pass_count
     lanes_passes = closed_passes 256 level (lane_at before) (lane_at after) passes lanes_closed
 
-    pub level_closed : (possible : ℕ) → length after ≡ 768 → Covers possible after → LevelClosed heads positive negated from (to - from) before after possible
-    level_closed possible len covers = record {
-      long = len;
+    pub level_closed : (possible : ℕ) → Covers possible after → LevelClosed heads positive negated from (to - from) before after possible
+    level_closed possible covers = record {
       covers = covers;
       each = λ t i l n.
           sym (lane_at_lem after t i n)
@@ -136,7 +132,7 @@ module _ (heads positive negated : List ℕ) (from to : ℕ) (before first table
   closed = closing_idle heads positive negated from (to - from) first table after progress passes c p idle
 
   level_is : LevelClosed heads positive negated from (to - from) before after progress.possible
-  level_is = level_closed heads positive negated from to before first low u after (passes + 1) closed progress.possible p.long p.covers
+  level_is = level_closed heads positive negated from to before first low u after (passes + 1) closed progress.possible p.covers
 
   pub idle_each : (t i : ℕ) → t < 4 → i < 64 → lane after t i ≡ settle (rules_in heads positive negated from (to - from)) (lane before t i)
   idle_each = level_is.each

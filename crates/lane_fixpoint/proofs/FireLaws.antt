@@ -116,7 +116,6 @@ module _ (k head positive : ℕ) (before after : List ℕ) (reduct body old join
 
   pub fired : Fired k head positive before after (not none)
   fired = record {
-    long = stores.long;
     kept = λ t j l. stores.there t (64 + j) l (λ e. omega (arith, one_fits head one));
     idle = λ e. idle (not_false none e);
     adds = λ e. adds (not_true none e);

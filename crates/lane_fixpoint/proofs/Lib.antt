@@ -1,4 +1,4 @@
--- The laws of the lowest atom of a set, and of rules for all lanes at once.
+-- The laws of sets of one atom, and of rules for all lanes at once.
 pub mod LowestLaws
 pub mod BodyLaws
 pub mod FireLaws

@@ -5,7 +5,7 @@ use mathlib.Core.Bool.{◌&&◌, Bool, cond}
 use mathlib.Core.List.{List}
 use Prim.Native.Nat.{◌+◌, ◌-◌, ◌<◌, ◌≤◌, ℕ}
 use lib.Bits.{bit_and, bit_or}
-use lib.ListN.{get_or, length}
+use lib.ListN.{get_or}
 use native.Mathlib.Decide.{ℕ_discrete}
 use native.Mathlib.Omega.{arith}
 use Rattle.atoms.specs.Sets.{Member, Subset, disjoint, member, subset, union}
@@ -27,8 +27,6 @@ module _ (heads positive : List ℕ) (from to delta initial : ℕ) where
   Rests table j = Satisfied j (get_or heads j 0) (get_or positive j 0) table
 
   pub record Passing (before table : List ℕ) (progress : Progress) (k : ℕ) : Type 0 where
-    pub low : from ≤ k
-    pub long : length table ≡ 768
     pub kept : Kept before table
     pub covers : Covers progress.possible table
     -- of the rules before place k those rest whose bodies have nothing added; of the others, those whose bodies have nothing of delta either
@@ -41,11 +39,9 @@ module _ (heads positive : List ℕ) (from to delta initial : ℕ) where
         → pass_over B (rules_in heads positive negated k (to - k)) (lane table t i)
         ≡ pass_over B (rules_in heads positive negated from (to - from)) (lane before t i))
 
-  pub passing_first : (possible : ℕ) (table : List ℕ) → length table ≡ 768 → Covers possible table → Stale heads positive from to delta initial table
+  pub passing_first : (possible : ℕ) (table : List ℕ) → Covers possible table → Stale heads positive from to delta initial table
       → Passing table table (record { possible = possible; added = 0 }) from
-  passing_first possible table len c s = record {
-    low = omega arith;
-    long = len;
+  passing_first possible table c s = record {
     kept = λ t k l. refl;
     covers = c;
     done = λ j a b. absurd (omega arith);
@@ -56,11 +52,9 @@ module _ (heads positive : List ℕ) (from to delta initial : ℕ) where
     each = λ negated B t i l n says. refl;
   }
 
-  pub passing_next : (before table after : List ℕ) (s r : Progress) (k : ℕ) → k < to → OneAtom (get_or heads k 0)
+  pub passing_next : (before table after : List ℕ) (s r : Progress) (k : ℕ) → from ≤ k → k < to → OneAtom (get_or heads k 0)
       → Passing before table s k → Stepped k (get_or heads k 0) (get_or positive k 0) s r table after → Passing before after r (k + 1)
-  passing_next before table after s r k less one p f = record {
-    low = omega (arith, p.low);
-    long = f.long;
+  passing_next before table after s r k low less one p f = record {
     kept = λ t j l. f.kept t j l ∙ p.kept t j l;
     covers = f.covers;
     done = λ j a b e. done j a b e (ℕ_discrete j k);
@@ -73,7 +67,7 @@ module _ (heads positive : List ℕ) (from to delta initial : ℕ) where
     each = λ negated B t i l n says.
         let S = lane table t i in
         let test : member i (cell table t (64 + k)) ≡ disjoint (get_or negated k 0) B
-        = ap (λ (x : ℕ). member i x) (p.kept t k l) ∙ says k p.low (omega arith) in
+        = ap (λ (x : ℕ). member i x) (p.kept t k l) ∙ says k low (omega arith) in
         pass_next_at heads positive negated k to less one B S (lane after t i) _
         (f.each t i l n
         ∙ ap (λ (b : Bool). cond (b && subset (get_or positive k 0) S) (union S (get_or heads k 0)) S) test)
@@ -134,7 +128,6 @@ module _ (heads positive : List ℕ) (from to delta initial : ℕ) where
   pub passing_done : (before table : List ℕ) (progress : Progress) (k : ℕ) → to ≤ k → Passing before table progress k
       → Passed heads positive from (to - from) before table progress
   passing_done before table progress k over p = record {
-    long = p.long;
     kept = p.kept;
     covers = p.covers;
     stale = record { each = λ j a b z e. p.done j a (omega arith) e };

@@ -1,11 +1,11 @@
 -- What is negated, read for all lanes at once. Assumes nothing.
-use mathlib.Core.Path.{◌∙◌, ◌≡◌, ap, refl, subst, sym}
+use mathlib.Core.Path.{◌∙◌, ◌≡◌, ap, subst, sym}
 use mathlib.Core.Logic.{◌≢◌}
 use mathlib.Core.List.{List}
 use Prim.Native.Nat.{◌+◌, ◌<◌, ◌≤◌, ℕ}
 use lib.Bits.{bit_and}
 use lib.Dec.{eqb}
-use lib.ListN.{get_or, length}
+use lib.ListN.{get_or}
 use native.Mathlib.Decide.{ℕ_discrete}
 use native.Mathlib.Omega.{arith}
 use Rattle.atoms.specs.Sets.{Subset, bit, disjoint, member}
@@ -16,7 +16,6 @@ use Rattle.lane_table.specs.declared.lane_set.LaneSet.{LaneSet}
 use Rattle.lane_table.proofs.BitLaws.{member_others}
 use Rattle.lane_table.proofs.LaneLaws.{stored_same}
 use Rattle.lane_fixpoint.specs.Firing.{HavingAny}
-use Rattle.lane_fixpoint.specs.Closure.{Reduced}
 use Rattle.lane_fixpoint.specs.Passes.{Covers}
 
 pub below : (j k : ℕ) → j < k + 1 → j ≢ k → j < k
@@ -35,17 +34,12 @@ covered a p s f = ap (λ (x : ℕ). eqb x 0) (ext same)
 -- of the rules before place k it is read
 module _ (negated : List ℕ) (from : ℕ) where
   pub record Reducing (before table : List ℕ) (k : ℕ) : Type 0 where
-    pub long : length table ≡ 768
     pub same : Same before table
     pub says : EachLane (λ t i. (j : ℕ) → from ≤ j → j < k → member i (cell table t (64 + j)) ≡ disjoint (get_or negated j 0) (lane before t i))
-
-  pub reducing_first : (table : List ℕ) → length table ≡ 768 → Reducing table table from
-  reducing_first table len = record { long = len; same = λ t i l n. refl; says = λ t i l n j a b. absurd (omega arith) }
 
   pub reducing_next : (possible : ℕ) (before table after : List ℕ) (hit rest : LaneSet) (k : ℕ) → Covers possible before → Reducing before table k
       → HavingAny table (bit_and (get_or negated k 0) possible) hit → Complement hit rest → Stored (64 + k) rest table after → Reducing before after (k + 1)
   reducing_next possible before table after hit rest k covers s hits rests stores = record {
-    long = stores.long;
     same = λ t i l n. stored_same (64 + k) rest table after stores (omega arith) t i l n ∙ s.same t i l n;
     says = λ t i l n j a b. go t i l n j a b (ℕ_discrete j k);
   }
@@ -60,6 +54,3 @@ module _ (negated : List ℕ) (from : ℕ) where
           ∙ ap (disjoint (bit_and (get_or negated k 0) possible)) (s.same t i l n) ∙ covered (get_or negated k 0) possible (lane before t i) (covers.each t i l n))
       go t i l n j a b (no ne) =
           ap (λ (x : ℕ). member i x) (stores.there t (64 + j) l (λ e. ne (omega arith))) ∙ s.says t i l n j a (below j k b ne)
-
-  pub reducing_done : (before table : List ℕ) (k to : ℕ) → to ≤ k → Reducing before table k → Reduced negated from to before table
-  reducing_done before table k to done s = record { long = s.long; same = s.same; says = λ t i l n j a b. s.says t i l n j a (omega arith) }

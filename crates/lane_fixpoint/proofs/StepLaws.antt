@@ -5,7 +5,6 @@ use mathlib.Core.Bool.{◌&&◌, Bool, cond, false, true}
 use mathlib.Core.List.{List}
 use Prim.Native.Nat.{◌+◌, ◌-◌, ◌<◌, ◌^◌, ℕ}
 use lib.Bits.{bit_and, bit_or}
-use lib.ListN.{length}
 use native.Mathlib.Omega.{arith}
 use Rattle.atoms.specs.Sets.{Member, Subset, member, subset, union}
 use Rattle.atoms.proofs.SetLaws.{inhabited, intersection_iff, member_low, subset_antisym, subset_true, union_least, union_left, union_right}
@@ -52,10 +51,9 @@ module _ (k head positive : ℕ) where
       go true false e f = refl
       go false y e f = refl
 
-  pub passed_over : (s : Progress) (table : List ℕ) → length table ≡ 768 → Covers s.possible table → Satisfied k head positive table
+  pub passed_over : (s : Progress) (table : List ℕ) → Covers s.possible table → Satisfied k head positive table
       → Stepped k head positive s s table table
-  passed_over s table len c h = record {
-    long = len;
+  passed_over s table c h = record {
     kept = λ t j l. refl;
     covers = c;
     grows = λ j m. m;
@@ -64,21 +62,9 @@ module _ (k head positive : ℕ) where
   }
 
   -- looked at, and nothing is new
-  pub fired_none : (s : Progress) (before after : List ℕ) (b : Bool) → Covers s.possible before → Fired k head positive before after b → b ≡ false
-      → Stepped k head positive s s before after
-  fired_none s before after b c f e = record {
-    long = f.long;
-    kept = f.kept;
-    covers = covers_same s.possible before after (f.idle e) c;
-    grows = λ j m. m;
-    moved = inl (f.idle e, refl);
-    each = f.each;
-  }
-
   pub fired_some : (s : Progress) (before after : List ℕ) (b : Bool) → Covers s.possible before → Fired k head positive before after b → b ≡ true
       → Stepped k head positive s (record { possible = bit_or s.possible head; added = bit_or s.added head }) before after
   fired_some s before after b c f e = record {
-    long = f.long;
     kept = f.kept;
     covers = record {
       each = λ t i l n.

@@ -1,5 +1,5 @@
 -- The rules of one level closed over, for all lanes at once, and the count of passes. Assumes nothing.
-use Rattle.std.specs.Prelude.{◌≡◌, List, ◌%◌, ◌+◌, ◌/◌, ◌<◌, ◌≤◌, ℕ, get_or, length}
+use Rattle.std.specs.Prelude.{◌≡◌, List, ◌%◌, ◌+◌, ◌/◌, ◌<◌, ◌≤◌, ℕ, get_or}
 use Rattle.atoms.specs.Sets.{disjoint, member}
 use Rattle.rules.specs.LevelByLevel.{pass_over, settle}
 use Rattle.rules.specs.Rules.{Rule}
@@ -10,21 +10,13 @@ use Rattle.lane_table.specs.LaneSets.{EachLane}
 use Rattle.lane_table.specs.Tables.{Same, cell, lane}
 use Rattle.lane_fixpoint.specs.Passes.{Covers}
 
--- what reducing the rules at places `from` to `to` needs: some of the 128 places, and a whole table
-pub record Reducible (from to : ℕ) (table : List ℕ) : Type 0 where
-  pub ordered : from ≤ to
-  pub fits : to ≤ 128
-  pub long : length table ≡ 768
-
 -- row 64 + k has the lanes whose sets have nothing that rule k negates
 pub record Reduced (negated : List ℕ) (from to : ℕ) (before after : List ℕ) : Type 0 where
-  pub long : length after ≡ 768
   pub same : Same before after
   pub says : EachLane (λ t i. (k : ℕ) → from ≤ k → k < to → member i (cell after t (64 + k)) ≡ disjoint (get_or negated k 0) (lane before t i))
 
 -- one level
 pub record LevelClosed (heads positive negated : List ℕ) (from n : ℕ) (before after : List ℕ) (possible : ℕ) : Type 0 where
-  pub long : length after ≡ 768
   pub covers : Covers possible after
   pub each : EachLane (λ t i. lane after t i ≡ settle (rules_in heads positive negated from n) (lane before t i))
 

@@ -1,7 +1,6 @@
 -- One rule, for all lanes at once. Assumes nothing.
-use Rattle.std.specs.Prelude.{◌≡◌, Bool, ◌&&◌, cond, false, not, true, List, ◌+◌, ◌<◌, ℕ, length}
+use Rattle.std.specs.Prelude.{◌≡◌, Bool, ◌&&◌, cond, false, not, true, List, ◌+◌, ℕ}
 use Rattle.atoms.specs.Sets.{disjoint, member, subset, union}
-use Rattle.arrays.specs.Arrays.{OneAtom}
 use Rattle.lane_table.specs.LaneSets.{EachLane, word}
 use Rattle.lane_table.specs.Tables.{Added, Kept, Same, cell, lane}
 use Rattle.lane_table.specs.declared.lane_set.LaneSet.{LaneSet}
@@ -14,12 +13,6 @@ pub record HavingAll (table : List ℕ) (atoms : ℕ) (among r : LaneSet) : Type
 pub record HavingAny (table : List ℕ) (atoms : ℕ) (r : LaneSet) : Type 0 where
   pub each : EachLane (λ t i. not (member i (word r t)) ≡ disjoint atoms (lane table t i))
 
--- what firing rule k needs: one of the 128 places, a head that is the set of one atom, and a whole table
-pub record Fireable (k head : ℕ) (table : List ℕ) : Type 0 where
-  pub place : k < 128
-  pub single : OneAtom head
-  pub long : length table ≡ 768
-
 -- rule k, whose head is the set of one atom, adds it in each lane whose reduct has the rule and whose set has its body
 abbrev pub FiredIn : ℕ → ℕ → ℕ → List ℕ → List ℕ → Type 0
 FiredIn k head positive before after = EachLane (λ t i. lane after t i
@@ -27,7 +20,6 @@ FiredIn k head positive before after = EachLane (λ t i. lane after t i
 
 -- r says whether the head is new in any
 pub record Fired (k head positive : ℕ) (before after : List ℕ) (r : Bool) : Type 0 where
-  pub long : length after ≡ 768
   pub kept : Kept before after
   pub idle : r ≡ false → Same before after
   pub adds : r ≡ true → Added before after

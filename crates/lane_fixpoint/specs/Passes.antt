@@ -1,5 +1,5 @@
 -- One pass over the rules of a level, for all lanes at once, and which rules it may pass over. Assumes nothing.
-use Rattle.std.specs.Prelude.{◌≡◌, ◌≢◌, ◌⊎◌, true, List, ◌+◌, ◌<◌, ◌≤◌, ℕ, get_or, length}
+use Rattle.std.specs.Prelude.{◌≡◌, ◌≢◌, ◌⊎◌, true, List, ◌+◌, ◌<◌, ◌≤◌, ℕ, get_or}
 use Rattle.std.specs.Int.Bits.{bit_and}
 use Rattle.atoms.specs.Sets.{Subset, disjoint, member, subset}
 use Rattle.rules.specs.LevelByLevel.{pass_over}
@@ -28,7 +28,6 @@ Moved head s r before after = (Same before after × (r.added ≡ s.added)) ⊎ (
 
 -- one rule, looked at or passed over
 pub record Stepped (k head positive : ℕ) (s r : Progress) (before after : List ℕ) : Type 0 where
-  pub long : length after ≡ 768
   pub kept : Kept before after
   pub covers : Covers r.possible after
   pub grows : Subset s.added r.added
@@ -41,7 +40,6 @@ Says negated table from n t i B = (k : ℕ) → from ≤ k → k < from + n → 
 
 -- one pass: nothing is added exactly where it is idle
 pub record Passed (heads positive : List ℕ) (from n : ℕ) (before after : List ℕ) (r : Progress) : Type 0 where
-  pub long : length after ≡ 768
   pub kept : Kept before after
   pub covers : Covers r.possible after
   pub stale : Stale heads positive from (from + n) r.added 0 after

@@ -1,12 +1,14 @@
 // One pass over the rules of a level, for all lanes at once.
-ghost use Rattle.std.specs.Prelude.{◌≡◌, ◌-◌, length};
+ghost use Rattle.std.specs.Prelude.{◌≡◌, ◌-◌, ◌<◌};
 ghost use Rattle.std.specs.Int.Bits.{bit_and, bit_or};
-ghost use Rattle.arrays.specs.Arrays.{Span};
-ghost use Rattle.lane_fixpoint.specs.Firing.{Fireable, Fired};
+ghost use Rattle.arrays.specs.Arrays.{OneAtom, Span};
+ghost use Rattle.lane_fixpoint.specs.Firing.{Fired};
 ghost use Rattle.lane_fixpoint.specs.Passes.{Covers, Passed, Satisfied, Stale, Stepped};
 
 use crate::bodies::having_all;
-use lane_table::rows::{load, store};
+use arrays::RuleArrays;
+use atoms::AtomSet;
+use lane_table::table::LaneTable;
 
 // Which atoms some lane may have, and which of them this pass has added to some lane.
 #[derive(Clone, Copy)]
@@ -15,36 +17,36 @@ pub struct Progress {
     pub added: u64,
 }
 
-// The rules at places `from` to `to`.
+// The rules at places `from` to `to`, after a pass that came as far as `before`.
 pub fn pass<'a>(
-    table: &'a mut [u64; 768],
-    heads: &'a [u64; 128],
-    positive: &'a [u64; 128],
+    table: &'a mut LaneTable,
+    rules: &'a RuleArrays,
     from: usize,
     to: usize,
-    possible: u64,
-    delta: u64,
+    before: Progress,
     initial: u64,
 ) -> Progress
-    requires placed { Span from to heads.now × (length table.old ≡ 768) }
-    requires covered { Covers possible table.old × Stale heads.now positive.now from to delta initial table.old }
-    ensures { Passed heads.now positive.now from (to - from) table.old table.new result }
+    requires placed { Span from to rules.now.heads }
+    requires covered { Covers before.possible table.old.words
+        × Stale rules.now.heads rules.now.positive from to before.added initial table.old.words }
+    ensures { Passed rules.now.heads rules.now.positive from (to - from) table.old.words table.new.words result }
 {
-    let mut progress = Progress { possible, added: 0 };
-    let mut k = from;
-    while k < to {
-        let head = heads[k];
-        let all = positive[k];
-        progress = step(table, k, head, all, delta, initial, progress);
-        k += 1;
+    let mut progress = Progress {
+        possible: before.possible,
+        added: 0,
+    };
+    for k in from..to {
+        let head = rules.heads[k];
+        let all = rules.positive[k];
+        progress = step(table, k, head, all, before.added, initial, progress);
     }
     progress
 }
 
 // The rule at place k. It is passed over where an atom of its body is in no lane, and where none was added since it was last looked at: `delta` was added
-// by the pass before, and `initial` is 0 but in the first pass.
+// by the pass before, and `initial` is 0 but in the first pass. It is a number, for one test with `delta`.
 fn step(
-    table: &mut [u64; 768],
+    table: &mut LaneTable,
     k: usize,
     head: u64,
     positive: u64,
@@ -52,10 +54,10 @@ fn step(
     initial: u64,
     progress: Progress,
 ) -> Progress
-    requires fireable { Fireable k head table.old }
-    requires covered { Covers progress.possible table.old
-        × (initial ≡ 0 → bit_and positive (bit_or delta progress.added) ≡ 0 → Satisfied k head positive table.old) }
-    ensures { Stepped k head positive progress result table.old table.new }
+    requires fireable { (k < 128) × OneAtom head }
+    requires covered { Covers progress.possible table.old.words
+        × (initial ≡ 0 → bit_and positive (bit_or delta progress.added) ≡ 0 → Satisfied k head positive table.old.words) }
+    ensures { Stepped k head positive progress result table.old.words table.new.words }
 {
     let possible = progress.possible;
     let added = progress.added;
@@ -75,13 +77,13 @@ fn step(
 }
 
 // The rule at place k adds its head in each lane where its body holds: whether it is new in any.
-fn fire(table: &mut [u64; 768], k: usize, head: u64, positive: u64) -> bool
-    requires { Fireable k head table.old }
-    ensures { Fired k head positive table.old table.new result }
+fn fire(table: &mut LaneTable, k: usize, head: u64, positive: u64) -> bool
+    requires { (k < 128) × OneAtom head }
+    ensures { Fired k head positive table.old.words table.new.words result }
 {
-    let body = having_all(table, positive, load(table, 64 + k));
-    let at = u64::trailing_zeros(head) as usize;
-    let old = load(table, at);
-    store(table, at, old.union(body));
+    let body = having_all(table, AtomSet { bits: positive }, table.load(64 + k));
+    let at = head.trailing_zeros() as usize;
+    let old = table.load(at);
+    table.store(at, old.union(body));
     !body.intersection(old.complement()).is_empty()
 }

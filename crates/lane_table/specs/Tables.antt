@@ -1,5 +1,5 @@
 -- A table of 192 rows of four words. Row k, below 64, has the lanes whose sets have atom k; row 64 + k those whose reduct has rule k. Assumes nothing.
-use Rattle.std.specs.Prelude.{◌≡◌, ◌≢◌, cond, List, ◌*◌, ◌+◌, ◌<◌, ◌^◌, suc, zero, ℕ, get_or, length}
+use Rattle.std.specs.Prelude.{◌≡◌, ◌≢◌, cond, List, ◌*◌, ◌+◌, ◌<◌, ◌^◌, suc, zero, ℕ, get_or}
 use Rattle.atoms.specs.Sets.{Member, bit, member, union}
 use Rattle.lane_table.specs.LaneSets.{EachLane, word}
 use Rattle.lane_table.specs.declared.lane_set.LaneSet.{LaneSet}
@@ -18,7 +18,6 @@ pub record Loaded (table : List ℕ) (k : ℕ) (q : LaneSet) : Type 0 where
 
 -- row k has become q, and the others are as they were
 pub record Stored (k : ℕ) (q : LaneSet) (before after : List ℕ) : Type 0 where
-  pub long : length after ≡ 768
   pub here : (t : ℕ) → t < 4 → cell after t k ≡ word q t
   pub there : (t j : ℕ) → t < 4 → j ≢ k → cell after t j ≡ cell before t j
 

@@ -1,6 +1,8 @@
 // Sets of lanes: four words, one bit for each of 256 lanes.
 ghost use Rattle.lane_table.specs.LaneSets.{Both, Complement, Either, Empty, JustOne, Splat};
 
+// Four words by name, and each operation word by word: over an array each would take a loop with a proof of its own, and a closure that they shared a clause for
+// each word.
 #[derive(Clone, Copy)]
 pub struct LaneSet {
     pub a: u64,
@@ -65,6 +67,7 @@ impl LaneSet {
         }
     }
 
+    #[tactic(auto, using(crate::proofs::LaneSetLaws::empty_is))]
     pub fn is_empty(self) -> bool
         ensures { Empty self result }
     {

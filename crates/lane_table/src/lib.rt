@@ -2,4 +2,4 @@
 #![tactic(auto)]
 
 pub mod lane_set;
-pub mod rows;
+pub mod table;

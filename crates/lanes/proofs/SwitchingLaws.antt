@@ -3,10 +3,10 @@ use mathlib.Core.Path.{◌∙◌, ◌≡◌, ap, refl, subst, sym}
 use mathlib.Core.Logic.{◌≢◌, inl, inr}
 use mathlib.Core.Bool.{cond}
 use mathlib.Core.List.{List}
-use Prim.Native.Nat.{◌+◌, ◌-◌, ◌<◌, ◌≤◌, ℕ}
+use Prim.Native.Nat.{◌+◌, ◌-◌, ◌<◌, ℕ}
 use lib.Bits.{bit_and, bit_or, bit_xor}
 use lib.Count.{count_trailing_zeros}
-use lib.ListN.{get_or, length}
+use lib.ListN.{get_or}
 use native.Mathlib.Decide.{ℕ_discrete}
 use native.Mathlib.Numerals.{add-one}
 use native.Mathlib.Omega.{arith}
@@ -25,14 +25,13 @@ use Rattle.lane_fixpoint.proofs.LowestLaws.{one_fits, one_small, one_trailing}
 use Rattle.lanes.specs.Candidates.{Noted, Switched, Takers, number}
 
 -- the members before j are switched; no lane has an atom outside `possible`
-pub record Switching (members : List ℕ) (count b : ℕ) (before table : List ℕ) (possible j : ℕ) : Type 0 where
-  pub low : j ≤ count
+pub record Switching (members : List ℕ) (b : ℕ) (before table : List ℕ) (possible j : ℕ) : Type 0 where
   pub done : Switched members j b before table
   pub covers : Covers possible table
 
-pub switching_first : (members : List ℕ) (b : ℕ) (table : List ℕ) → length table ≡ 768 → Switched members 0 b table table
+pub switching_first : (members : List ℕ) (b : ℕ) (table : List ℕ) → Switched members 0 b table table
 unfolding switched
-switching_first members b table len = record { long = len; each = λ base t i l n e. e }
+switching_first members b table = record { each = λ base t i l n e. e }
 
 module _ (members : List ℕ) (j b : ℕ) (before table after : List ℕ) (old takers new : LaneSet)
     (one : OneAtom (get_or members j 0)) (s : Switched members j b before table)
@@ -89,7 +88,6 @@ module _ (members : List ℕ) (j b : ℕ) (before table after : List ℕ) (old t
   pub switching_next : Switched members (j + 1) b before after
   unfolding switched set
   switching_next = rw (add-one j) (record {
-    long = stores.long;
     each = λ base t i l n e.
         switched_here t i l n
         ∙ ap (λ (x : ℕ). cond (member j (number b t i)) (bit_xor x (get_or members j 0)) x) (s.each base t i l n e);

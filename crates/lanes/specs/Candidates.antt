@@ -1,5 +1,5 @@
 -- The candidates of a block in a table: lane (t, i) of block b is candidate 256 b + 64 t + i. Assumes nothing.
-use Rattle.std.specs.Prelude.{◌≡◌, ◌⊎◌, List, ◌*◌, ◌+◌, ◌-◌, ◌<◌, ℕ, get_or, length}
+use Rattle.std.specs.Prelude.{◌≡◌, ◌⊎◌, List, ◌*◌, ◌+◌, ◌-◌, ◌<◌, ℕ, get_or}
 use Rattle.std.specs.Int.Bits.{bit_and, bit_or}
 use Rattle.atoms.specs.Sets.{bit}
 use Rattle.preference.specs.Candidates.{switched}
@@ -27,7 +27,6 @@ Uniform base table = EachLane (λ t i. lane table t i ≡ base)
 
 -- each candidate of block b has switched its members below m
 pub record Switched (members : List ℕ) (m b : ℕ) (before after : List ℕ) : Type 0 where
-  pub long : length after ≡ 768
   pub each : (base : ℕ) → EachLane (λ t i. lane before t i ≡ base → lane after t i ≡ switched base members m (number b t i))
 
 -- r is what was possible, with `member`; or without it, where its row has no lane

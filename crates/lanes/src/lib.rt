@@ -4,4 +4,4 @@
 pub mod blocks;
 mod candidates;
 mod levels;
-mod members;
+pub mod members;

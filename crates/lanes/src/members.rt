@@ -9,28 +9,27 @@ pub fn takers(j: usize, b: usize) -> LaneSet
     requires { j < 16 }
     ensures { Takers j b result }
 {
-    let all: u64 = 0xffff_ffff_ffff_ffff;
     if j < 6 {
         return LaneSet::splat(pattern(j));
     }
     if j == 6 {
         return LaneSet {
             a: 0,
-            b: all,
+            b: u64::MAX,
             c: 0,
-            d: all,
+            d: u64::MAX,
         };
     }
     if j == 7 {
         return LaneSet {
             a: 0,
             b: 0,
-            c: all,
-            d: all,
+            c: u64::MAX,
+            d: u64::MAX,
         };
     }
     if (b >> (j - 8)) % 2 == 1 {
-        LaneSet::splat(all)
+        LaneSet::splat(u64::MAX)
     } else {
         LaneSet::splat(0)
     }

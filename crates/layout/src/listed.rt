@@ -1,51 +1,44 @@
 // A policy's rules of one kind, read once from its bytes.
-ghost use Rattle.std.specs.Prelude.{◌≡◌, cond, ◌+◌, ◌<◌, ◌≤◌};
 ghost use Rattle.records.specs.Records.{rules_of};
 ghost use Rattle.form.specs.WrittenForm.{WellFormed};
-ghost use Rattle.arrays.specs.Arrays.{InOrder};
+ghost use Rattle.arrays.specs.Arrays.{Heads, InOrder, Span};
 
+use arrays::RuleArrays;
 use atoms::AtomSet;
 use records::record_at;
 
-// The first `count` places hold the rules, in the order of their records. A head is the set of that one atom; every place holds one.
+// The first `count` places hold the rules, in the order of their records. A count and no vector: the passes go over parts of the same arrays.
 #[derive(Clone, Copy)]
 pub struct Listed {
-    pub heads: [u64; 128],
-    pub positive: [u64; 128],
-    pub negated: [u64; 128],
+    pub rules: RuleArrays,
     pub count: usize,
+    pub ghost places: { Span 0 count rules.heads },
 }
 
 // The rules of one kind of an accepted policy.
 pub fn rules_of(policy: &[u8], kind: u8) -> Listed
     requires { WellFormed policy.now }
-    ensures { InOrder (rules_of kind policy.now) result.heads result.positive result.negated result.count }
+    ensures { InOrder (rules_of kind policy.now) result.rules.heads result.rules.positive result.rules.negated result.count }
 {
-    let records = policy.len() / 18;
-    let mut listed = Listed {
-        heads: [1u64; 128],
-        positive: [0u64; 128],
-        negated: [0u64; 128],
-        count: 0,
-    };
-    let mut k: usize = 0;
-    while k < records {
-        let parsed = record_at(policy, k);
-        // Each record is put at the next place, and counts there if it is of the kind.
-        let place = listed.count;
-        listed.heads[place] = AtomSet::one(parsed.head).bits;
-        listed.positive[place] = parsed.positive.bits;
-        listed.negated[place] = parsed.negated.bits;
-        listed.count = after(place, parsed.kind == kind);
-        k += 1;
-    }
-    listed
+    let mut rules = RuleArrays::EMPTY;
+    let count = list(policy, kind, &mut rules);
+    Listed { rules, count }
 }
 
-// The place after this one, if this one is taken.
-fn after(place: usize, taken: bool) -> usize
-    requires { place < 128 }
-    ensures { (result ≡ cond taken (place + 1) place) × (result ≤ place + 1) }
+// The same, put into what is lent; the answer is how many they are.
+pub(crate) fn list(policy: &[u8], kind: u8, rules: &mut RuleArrays) -> usize
+    requires { WellFormed policy.now × Heads rules.old.heads }
+    ensures { InOrder (rules_of kind policy.now) rules.new.heads rules.new.positive rules.new.negated result }
 {
-    if taken { place + 1 } else { place }
+    let mut count: usize = 0;
+    for k in 0..policy.len() / 18 {
+        let parsed = record_at(policy, k);
+        if parsed.kind == kind {
+            rules.heads[count] = AtomSet::one(parsed.head).bits;
+            rules.positive[count] = parsed.positive.bits;
+            rules.negated[count] = parsed.negated.bits;
+            count += 1;
+        }
+    }
+    count
 }

@@ -30,10 +30,8 @@ pub record Searchable (levels : ℕ) (heads starts : List ℕ) (request : ℕ) (
   pub atom : request ≤ violation
   pub switches : Members members count
 
--- what a question starts from: rules in arrays, a request that is an atom, nothing of what may be asked is shown, and what is shown does not unlock the
--- request alone
+-- what a question starts from: a request that is an atom, nothing of what may be asked is shown, and what is shown does not unlock the request alone
 pub record LockedRequest (levels : ℕ) (heads positive negated starts : List ℕ) (request shown within : ℕ) : Type 0 where
-  pub placed : Placed levels heads starts
   pub atom : request ≤ violation
   pub apart : disjoint shown within ≡ true
   pub alone : opens_in levels heads positive negated starts request shown no_question ≡ false

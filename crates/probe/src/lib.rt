@@ -2,7 +2,6 @@
 #![tactic(auto)]
 
 ghost use Rattle.std.specs.Prelude.{◌≡◌, ◌<◌, ◌^◌, ◌≤◌};
-ghost use Rattle.atoms.specs.Sets.{difference};
 ghost use Rattle.records.specs.Policies.{policy_of};
 ghost use Rattle.arrays.specs.Arrays.{level_count};
 ghost use Rattle.preference.specs.Candidates.{switched};
@@ -11,17 +10,18 @@ ghost use Rattle.preference.specs.Order.{trials};
 ghost use Rattle.search.specs.Types.{result_of};
 ghost use Rattle.probe.specs.Reply.{ProbeInput, accepted_reply, found_reply, result_reply, search_reply};
 
-use arrays::Starts;
+use arrays::{LevelRules, RuleArrays};
 use atoms::{AtomSet, FIRST_DERIVED, LAST_DERIVED};
 use evaluation::levels::unlocks;
 use layout::access_rules;
-use policy::{Checked, examine};
-use question::members::write_members;
+use policy::examine;
+use preference::Search;
+use question::members::{without, write_members};
 use search::candidate::switched;
 use search::first;
 use search::result::SearchResult;
 
-// The shown set alone unlocks the request.
+// The answers of the C interface are numbers, as its document and `search_reply` have them. Zero: the shown set alone unlocks the request.
 const OPEN: u64 = 0;
 
 // The limit comes first.
@@ -43,16 +43,13 @@ pub extern "C" fn probe_search(
     ensures answer { result ≡ search_reply policy.now request shown within weights.now limit }
     ensures unchanged { (policy.now ≡ policy.now) × (weights.now ≡ weights.now) }
 {
-    let examined = examine(policy);
-    let levels = examined.levels;
-    let checked = examined.checked;
-    let Checked::Accepted = checked else {
+    let Ok(levels) = examine(policy) else {
         return REFUSED;
     };
-    if request < FIRST_DERIVED as u16 {
+    if request < u16::from(FIRST_DERIVED) {
         return REFUSED;
     }
-    if request > LAST_DERIVED as u16 {
+    if request > u16::from(LAST_DERIVED) {
         return REFUSED;
     }
     let service = request as u8;
@@ -61,9 +58,9 @@ pub extern "C" fn probe_search(
 }
 
 // Under an accepted policy, whose access rules keep these levels. Nothing of what may be asked is shown.
-fn accepted<'a>(
-    policy: &'a [u8],
-    levels: &'a [u8; 64],
+fn accepted(
+    policy: &[u8],
+    levels: &[u8; 64],
     request: u8,
     shown: u16,
     within: u16,
@@ -73,42 +70,44 @@ fn accepted<'a>(
     requires { ProbeInput policy.now levels.now request shown within }
     ensures { result ≡ accepted_reply (policy_of policy.now) request shown within weights.now limit }
 {
-    let mut heads = [1u64; 128];
-    let mut positive = [0u64; 128];
-    let mut negated = [0u64; 128];
-    let starts = access_rules(policy, levels, &mut heads, &mut positive, &mut negated);
+    let mut laid = RuleArrays::EMPTY;
+    let starts = access_rules(policy, levels, &mut laid);
+    let rules = LevelRules {
+        rules: laid,
+        starts,
+    };
     let credentials = AtomSet::credentials(shown);
-    if unlocks(&heads, &positive, &negated, &starts, request, credentials) {
+    if unlocks(&rules, request, credentials) {
         return OPEN;
     }
-    found(
-        &heads, &positive, &negated, &starts, request, shown, within, weights, limit,
-    )
+    found(&rules, request, shown, within, weights, limit)
 }
 
 // By rules in arrays. The shown set alone does not unlock the request.
-fn found<'a>(
-    heads: &'a [u64; 128],
-    positive: &'a [u64; 128],
-    negated: &'a [u64; 128],
-    starts: &'a Starts,
+fn found(
+    rules: &LevelRules,
     request: u8,
     shown: u16,
     within: u16,
-    weights: &'a [u8; 16],
+    weights: &[u8; 16],
     limit: u32,
 ) -> u64
-    requires { LockedRequest level_count heads.now positive.now negated.now starts.now request shown within }
-    ensures { result ≡ found_reply (opens_in level_count heads.now positive.now negated.now starts.now request shown)
-        within weights.now limit }
+    requires { LockedRequest level_count rules.now.rules.heads rules.now.rules.positive rules.now.rules.negated rules.now.starts
+        request shown within }
+    ensures { result ≡ found_reply (opens_in level_count rules.now.rules.heads rules.now.rules.positive
+        rules.now.rules.negated rules.now.starts request shown) within weights.now limit }
 {
     let mut members = [0u16; 16];
     write_members(&mut members, within);
     let count = AtomSet::credentials(within).count() as usize;
-    let most = limit as usize;
-    let answer = first(
-        heads, positive, negated, starts, request, shown, &members, count, weights, most,
-    );
+    let search = Search {
+        rules,
+        request,
+        shown,
+        members: &members,
+        count,
+    };
+    let answer = first(&search, weights, limit as usize);
     reply(answer, &members, count)
 }
 
@@ -120,16 +119,9 @@ fn reply(answer: SearchResult, members: &[u16; 16], count: usize) -> u64
     match answer {
         SearchResult::Found { candidate, place } => {
             let asked = switched(0, members, count, candidate);
-            256 * (place as u64) + 4294967296 * (asked as u64)
+            256 * (place as u64) + 4294967296 * u64::from(asked)
         }
         SearchResult::Nothing { tried } => 1 + 256 * (tried as u64),
         SearchResult::Spent => SPENT,
     }
-}
-
-// The credentials of a set that are not in another.
-fn without(set: u16, other: u16) -> u16
-    ensures { result ≡ difference set other }
-{
-    set - (set & other)
 }

@@ -1,6 +1,5 @@
 -- The members of a set, listed one after another. Assumes nothing.
 use mathlib.Core.Path.{◌∙◌, ◌≡◌, ap, refl, subst, sym}
-use mathlib.Core.Logic.{◌≢◌}
 use mathlib.Core.Bool.{cond}
 use mathlib.Core.List.{List}
 use Prim.Native.Nat.{◌%◌, ◌*◌, ◌+◌, ◌-◌, ◌/◌, ◌<◌, ◌^◌, ◌≤◌, suc, zero, ℕ}
@@ -12,6 +11,7 @@ use lib.Pow.{pow_mono, pow_pos, shr-shr}
 use lib.Seq.{get_or-set_other, get_or-set_same}
 use native.Mathlib.Decide.{dec_lt}
 use native.Mathlib.Nat.{mul-one, mul-zero, one-mul, pow-suc}
+use native.Mathlib.Numerals.{add-one}
 use native.Mathlib.Omega.{arith}
 use Rattle.atoms.specs.Sets.{member, size, union}
 use Rattle.atoms.proofs.SetLaws.{bit_lt, single_is}
@@ -24,16 +24,6 @@ use Rattle.preference.proofs.NumberLaws.{ones_none, ones_size}
 use Rattle.question.proofs.TakingLaws.{Taking, taking_all, taking_more, taking_none}
 
 -- ---- credentials below k are passed, and what is left lies above them
-
-pub above_short : (left k : ℕ) → left < 2 ^ (16 - k) → left ≢ 0 → k < 16
-above_short left k h d = go (dec_lt k 16)
-  where
-    go : Dec (k < 16) → k < 16
-    go (yes l) = l
-    go (no l) =
-        let z : 16 - k ≡ 0 = omega arith in
-        let o : left < 2 ^ 0 = subst (λ (x : ℕ). left < 2 ^ x) z h in
-        absurd (d (omega arith))
 
 pub above_next : (left k : ℕ) → k < 16 → left < 2 ^ (16 - k) → left / 2 < 2 ^ (16 - (k + 1))
 above_next left k l h =
@@ -84,9 +74,6 @@ taken_set members at v (suc j) m l =
 module _ (D : ℕ) (members : List ℕ) (left place n k : ℕ) (h : Listing D members left place n k) (l : k < 16) where
   after : List ℕ
   after = set members n place
-
-  pub listing_small : place ≤ 32768
-  listing_small = omega (arith, h.is, pow_mono {i = k} {j = 15} (omega arith))
 
   same : (j : ℕ) → j < n → get_or after j 0 ≡ get_or members j 0
   unfolding after
@@ -164,45 +151,45 @@ module _ (D : ℕ) (members : List ℕ) (left place n k : ℕ) (h : Listing D me
         (shr-shr m n (left % 2)) (taking_more D m k (taken members n m) place left (m / 2 ^ n) l (h.taking m)));
   }
 
--- what the loop knows: so many credentials are passed, and what is left lies above them
-pub record Listed (D : ℕ) (members : List ℕ) (left place n : ℕ) : Type 0 where
-  pub passed : ℕ
-  pub listing : Listing D members left place n passed
-  pub above : left < 2 ^ (16 - passed)
+-- what the loop knows: the credentials below k are passed, and what is left lies above them
+pub record Listed (D : ℕ) (members : List ℕ) (left n k : ℕ) : Type 0 where
+  pub listing : Listing D members left (2 ^ k) n k
+  pub above : left < 2 ^ (16 - k)
 
-pub listed_none : (D : ℕ) (members : List ℕ) → D < 2 ^ 16 → length members ≡ 16 → Listed D members D 1 0
-listed_none D members l e = record { passed = 0; listing = listing_none D members e; above = l }
+pub listed_none : (D : ℕ) (members : List ℕ) → D < 2 ^ 16 → length members ≡ 16 → Listed D members D 0 0
+listed_none D members l e = record { listing = listing_none D members e; above = l }
 
-module _ (D : ℕ) (members : List ℕ) (left place n : ℕ) (h : Listed D members left place n) where
-  pub listed_short : left ≢ 0 → h.passed < 16
-  listed_short = above_short left h.passed h.above
-
-  pub listed_room : left ≢ 0 → (n < 16) × (place ≤ 32768)
-  listed_room d = (omega (arith, h.listing.few, listed_short d), listing_small D members left place n h.passed h.listing (listed_short d))
-
-  pub listed_more : left ≢ 0 → Listed D (set members n place) (left / 2) (2 * place) (n + left % 2)
-  listed_more d =
-      let l = listed_short d in
-      record {
-        passed = h.passed + 1;
-        listing = listing_more D members left place n h.passed h.listing l;
-        above = above_next left h.passed l h.above;
-      }
+module _ (D : ℕ) (members : List ℕ) (left n k : ℕ) (h : Listed D members left n k) where
+  pub listed_more : (v o : ℕ) → k < 16 → v ≡ 1 * 2 ^ k % 65536 → o ≡ left % 2 → Listed D (set members n v) (left / 2) (n + o) (k + 1)
+  listed_more v o l e f =
+      let small : v ≡ 2 ^ k = omega (arith, pow_mono {i = k} {j = 15} (omega arith)) in
+      let two : 2 * 2 ^ k ≡ 2 ^ (k + 1) = omega (arith, pow-suc 2 k, ap (λ (x : ℕ). 2 ^ x) (add-one k)) in
+      rw (small, f) (record {
+        listing = subst (λ (x : ℕ). Listing D (set members n (2 ^ k)) (left / 2) x (n + left % 2) (k + 1)) two (listing_more D members left (2 ^ k) n k h.listing l);
+        above = above_next left k l h.above;
+      })
 
   pub listed_all : D < 2 ^ 16 → left ≡ 0 → MembersOf D members
   listed_all l z = record {
     each = (size_credentials D l, λ j i. one j (omega (arith, all)));
     different = λ i j u v e. absurd (omega (arith, h.listing.rising i j u (omega (arith, all)), e));
     subset = λ m. subst (λ (y : ℕ). taken members y m ≡ subset_of D m) all
-        (taking_all D m h.passed (taken members n m) place (m / 2 ^ n)
-        (subst (λ (y : ℕ). Taking D m h.passed (taken members n m) place y (m / 2 ^ n)) z (h.listing.taking m)));
+        (taking_all D m k (taken members n m) (2 ^ k) (m / 2 ^ n)
+        (subst (λ (y : ℕ). Taking D m k (taken members n m) (2 ^ k) y (m / 2 ^ n)) z (h.listing.taking m)));
   }
     where
       all : n ≡ size D
-      all = omega (arith, h.listing.sized, ones_size D l, ap (ones_in (16 - h.passed)) z, ones_none (16 - h.passed))
+      all = omega (arith, h.listing.sized, ones_size D l, ap (ones_in (16 - k)) z, ones_none (16 - k))
 
       one : (j : ℕ) → j < n → OneAtom (get_or members j 0)
       one j i =
           let e = h.listing.each j i in
           let low : e.0 ≤ 63 = omega (arith, e.1.0, h.listing.most) in
           subst OneAtom (single_is e.0 low ∙ sym e.1.1) (one_single e.0 low)
+
+-- all sixteen are passed
+pub none_left : (left k : ℕ) → 16 ≤ k → left < 2 ^ (16 - k) → left ≡ 0
+none_left left k l h =
+    let z : 16 - k ≡ 0 = omega arith in
+    let o : left < 2 ^ 0 = subst (λ (x : ℕ). left < 2 ^ x) z h in
+    omega arith

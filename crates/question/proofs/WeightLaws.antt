@@ -1,6 +1,5 @@
 -- The weights of the members of a set, listed one after another. Assumes nothing.
 use mathlib.Core.Path.{◌∙◌, ◌≡◌, ap, refl, sym}
-use mathlib.Core.Logic.{◌≢◌}
 use mathlib.Core.List.{List, ◌∷◌}
 use Prim.Native.Nat.{◌%◌, ◌+◌, ◌-◌, ◌/◌, ◌<◌, ◌^◌, ◌≤◌, suc, zero, ℕ}
 use lib.Count.{ones_in}
@@ -10,7 +9,7 @@ use native.Mathlib.Decide.{dec_lt}
 use native.Mathlib.Omega.{arith}
 use Rattle.preference.specs.Subsets.{WeightsListed, pick, weights_in, weights_of}
 use Rattle.preference.proofs.NumberLaws.{ones_none, ones_size}
-use Rattle.question.proofs.MemberLaws.{above_next, above_short, ones_next}
+use Rattle.question.proofs.MemberLaws.{above_next, ones_next}
 
 -- the weights from k on, as they are read
 weights_same : (m : ℕ) (v w : ℕ → ℕ) (D : ℕ) → ((j : ℕ) → v j ≡ w j) → weights_in m v D ≡ weights_in m w D
@@ -45,9 +44,6 @@ weighing_none w D listed l e = record {
 }
 
 module _ (w : ℕ → ℕ) (D : ℕ) (listed : List ℕ) (left k n : ℕ) (h : Weighing w D listed left k n) where
-  pub weighing_room : left ≢ 0 → (k < 16) × (n < 16)
-  weighing_room d = let l = above_short left k h.above d in (l, omega (arith, h.few))
-
   module _ (l : k < 16) where
     after : List ℕ
     after = set listed n (w k)

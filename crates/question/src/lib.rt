@@ -6,9 +6,10 @@ ghost use Rattle.arrays.specs.Arrays.{level_count};
 ghost use Rattle.preference.specs.InArrays.{LockedRequest, preferred_in};
 ghost use Rattle.question.specs.Types.{result_asks, found_of};
 
-use arrays::Starts;
+use arrays::LevelRules;
 use atoms::AtomSet;
 use members::{write_members, write_weights};
+use preference::Search;
 use search::candidate::switched;
 use search::first;
 use search::result::SearchResult;
@@ -21,63 +22,49 @@ pub struct Question {
     pub asks: u16,
 }
 
-// The preferred question, or none that unlocks.
-#[derive(Clone, Copy)]
-pub enum Found {
-    Preferred(Question),
-    Nothing,
-}
-
 // As many candidates as sixteen members have, the empty one apart.
 const NO_LIMIT: usize = 65535;
 
-// The rules are in arrays, laid out by level; credential k weighs weights[k]. Nothing of what may be asked is shown, and the shown set alone does not
+// The preferred question, or none that unlocks. Credential k weighs weights[k]. Nothing of what may be asked is shown, and the shown set alone does not
 // unlock the request.
-pub fn preferred<'a>(
-    heads: &'a [u64; 128],
-    positive: &'a [u64; 128],
-    negated: &'a [u64; 128],
-    starts: &'a Starts,
+pub fn preferred(
+    rules: &LevelRules,
     request: u8,
     shown: u16,
     within: u16,
-    weights: &'a [u8; 16],
-) -> Found
-    requires { LockedRequest level_count heads.now positive.now negated.now starts.now request shown within }
-    ensures { found_of result ≡ preferred_in level_count heads.now positive.now negated.now starts.now request shown within
-        weights.now }
+    weights: &[u8; 16],
+) -> Option<Question>
+    requires { LockedRequest level_count rules.now.rules.heads rules.now.rules.positive rules.now.rules.negated rules.now.starts
+        request shown within }
+    ensures { found_of result ≡ preferred_in level_count rules.now.rules.heads rules.now.rules.positive
+        rules.now.rules.negated rules.now.starts request shown within weights.now }
 {
     let mut members = [0u16; 16];
     write_members(&mut members, within);
     let count = AtomSet::credentials(within).count() as usize;
     let mut member_weights = [0u8; 16];
     write_weights(&mut member_weights, within, weights);
-    let answer = first(
-        heads,
-        positive,
-        negated,
-        starts,
+    let search = Search {
+        rules,
         request,
         shown,
-        &members,
+        members: &members,
         count,
-        &member_weights,
-        NO_LIMIT,
-    );
+    };
+    let answer = first(&search, &member_weights, NO_LIMIT);
     asked(answer, &members, count)
 }
 
 // The question that a candidate stands for.
-fn asked(answer: SearchResult, members: &[u16; 16], count: usize) -> Found
+fn asked(answer: SearchResult, members: &[u16; 16], count: usize) -> Option<Question>
     requires { count ≤ 16 }
     ensures { found_of result ≡ result_asks members.now count answer }
 {
     match answer {
-        SearchResult::Found { candidate, place } => {
+        SearchResult::Found { candidate, .. } => {
             let asks = switched(0, members, count, candidate);
-            Found::Preferred(Question { asks })
+            Some(Question { asks })
         }
-        SearchResult::Nothing { tried } => Found::Nothing,
-        SearchResult::Spent => Found::Nothing,
+        SearchResult::Nothing { .. } | SearchResult::Spent => None,
     }
 }

@@ -130,20 +130,3 @@ keyed_all ws from members xs totals keys i l top t e h = record {
   };
   beyond = λ j k. h.beyond j (omega arith) ∙ t.beyond j k;
 }
-
--- ---- the loops
-
--- the totals of the first j members are written
-pub record WritingTotals (weights : List ℕ) (from members : ℕ) (old new : List ℕ) (top j : ℕ) : Type 0 where
-  pub low : j ≤ members
-  pub power : top ≡ 2 ^ j
-  pub room : 2 ^ members ≤ length old
-  pub written : TotalsWritten weights from j old new
-
--- the first i totals have become keys
-pub record WritingKeys (members count : ℕ) (old new : List ℕ) (i : ℕ) : Type 0 where
-  pub low : i ≤ count
-  pub power : count ≡ 2 ^ members
-  pub few : count ≤ 256
-  pub room : count ≤ length old
-  pub keyed : Keyed old i new

@@ -13,12 +13,6 @@ use Rattle.atoms.proofs.SetLaws.{bit_empty}
 use Rattle.ranking.specs.Keys.{never}
 use Rattle.ranking.specs.Cheapest.{Cheapest, Joined, Passing}
 
--- of word t the lanes before i are read
-pub record InWord (keys words : List ℕ) (t word least i : ℕ) : Type 0 where
-  pub low : i ≤ 64
-  pub read : word ≡ get_or words t 0
-  pub cheapest : Cheapest keys words (64 * t + i) least
-
 module _ (keys words : List ℕ) where
   pub cheapest_none : Cheapest keys words 0 never
   cheapest_none = record { most = omega arith; least = λ i k _. absurd (not-suc-le-zero k); one = inl refl }

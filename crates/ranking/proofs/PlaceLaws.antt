@@ -1,17 +1,19 @@
 -- Counting the candidates before a key. Assumes nothing.
-use mathlib.Core.Path.{◌∙◌, ◌≡◌, ap, subst, sym}
+use mathlib.Core.Path.{◌∙◌, ◌≡◌, ap, sym}
 use mathlib.Core.Logic.{◌⊎◌, inl, inr}
-use mathlib.Core.Bool.{Bool, true}
 use mathlib.Core.List.{List}
 use Prim.Native.Nat.{◌*◌, ◌+◌, ◌-◌, ◌<◌, ◌≤◌, ℕ}
 use borrow.Author.Tests.{le-ltb, lt-ltb}
-use lib.Dec.{ltb, ltb→lt}
-use lib.ListN.{get_or}
+use lib.Dec.{ltb}
+use lib.ListN.{get_or, length, take}
+use Rattle.std.proofs.lemmas.List.{get_or-take, length-take}
 use native.Mathlib.Decide.{dec_lt}
 use native.Mathlib.Omega.{arith}
-use Rattle.lists.proofs.SumLaws.{sum_next, sum_none, sum_start}
+use Rattle.std.specs.Int.{from_bool}
+use Rattle.std.specs.Prelude.{nat_lt}
+use Rattle.std.proofs.lemmas.Bool.Decides.{nat_tests}
+use Rattle.lists.proofs.SumLaws.{sum_next, sum_none, sum_same, sum_start}
 use Rattle.lists.specs.Sums.{sum}
-use Rattle.validation.proofs.TestLaws.{true_T}
 use Rattle.ranking.specs.Keys.{never}
 use Rattle.ranking.specs.Place.{below, keys_below, keys_in, narrow}
 
@@ -22,6 +24,10 @@ below_yes l = simp (lt-ltb _ _ l)
 pub below_no : {a b : ℕ} → b ≤ a → below a b ≡ 0
 unfolding below
 below_no l = simp (le-ltb _ _ l)
+
+pub below_is : (a b r : ℕ) → r ≡ from_bool (nat_lt a b) → r ≡ below a b
+unfolding below
+below_is a b r e = grind (arith, nat_tests)
 
 pub below_cases : (a b : ℕ) → ((a < b) × (below a b ≡ 1)) ⊎ ((b ≤ a) × (below a b ≡ 0))
 below_cases a b = go (dec_lt a b)
@@ -47,6 +53,15 @@ pub more_below : (keys : List ℕ) (i bar : ℕ) → keys_below keys (i + 1) bar
 unfolding keys_below
 more_below keys i bar = sum_next (λ i. below (get_or keys i 0) bar) i
 
+-- a part of the keys
+pub keys_taken : (keys : List ℕ) (count bar : ℕ) → count ≤ length keys → keys_below (take count keys) (length (take count keys)) bar ≡ keys_below keys count bar
+unfolding keys_below
+keys_taken keys count bar l =
+    let e : length (take count keys) ≡ count = omega (arith, length-take count keys) in
+    ap (λ (x : ℕ). sum (λ i. below (get_or (take count keys) i 0) bar) x) e
+    ∙ sum_same (λ i. below (get_or (take count keys) i 0) bar) (λ i. below (get_or keys i 0) bar) count
+    (λ i k. ap (λ (x : ℕ). below x bar) (get_or-take count keys i 0 k))
+
 -- nothing is below 0
 pub zero_below : (keys : List ℕ) (count left : ℕ) → left ≡ 0 → 0 ≡ keys_below keys count (narrow left)
 unfolding keys_below
@@ -65,28 +80,6 @@ more_in low lanes high b key count left more p q s =
     omega (arith, p, s ∙ ap (keys_below low lanes) (ap narrow q), sum_next (λ b. keys_below low lanes (narrow (key - 256 * get_or high b 0))) b)
 
 -- ---- the bar: where the first candidate of a block is past the limit
-
-pub half_past : (low : List ℕ) (lanes : ℕ) (high : List ℕ) (blocks limit top middle p : ℕ) (past : Bool) (h : ℕ)
-    → limit < keys_in low lanes high blocks (256 * top) → p ≡ keys_in low lanes high blocks (256 * middle) → past ≡ ltb limit p
-    → (h ≡ top) ⊎ ((past ≡ true) × (h ≡ middle)) → limit < keys_in low lanes high blocks (256 * h)
-half_past low lanes high blocks limit top middle p past h l e t (inl i) = subst (λ (x : ℕ). limit < keys_in low lanes high blocks (256 * x)) (sym i) l
-half_past low lanes high blocks limit top middle p past h l e t (inr (y, i)) =
-    subst (λ (x : ℕ). limit < keys_in low lanes high blocks (256 * x)) (sym i)
-    (subst (λ (x : ℕ). limit < x) e (ltb→lt limit p (true_T (sym t ∙ y))))
-
--- ---- the loops
-
--- n of the first i keys are below the bar
-pub record KeysCounted (keys : List ℕ) (count bar i n : ℕ) : Type 0 where
-  pub low : i ≤ count
-  pub most : n ≤ i
-  pub counted : n ≡ keys_below keys i bar
-
--- n candidates of the first b blocks have a key below the given one
-pub record BlocksCounted (low : List ℕ) (lanes : ℕ) (high : List ℕ) (blocks key b n : ℕ) : Type 0 where
-  pub few : b ≤ blocks
-  pub most : n ≤ 256 * b
-  pub counted : n ≡ keys_in low lanes high b key
 
 -- a bar is between l and h: blocks from h on stand past the limit
 pub record Between (low : List ℕ) (lanes : ℕ) (high : List ℕ) (blocks limit l h : ℕ) : Type 0 where

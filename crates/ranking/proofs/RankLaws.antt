@@ -1,9 +1,10 @@
 -- The keys that the program makes stand in order of cost and number. Assumes nothing.
-use mathlib.Core.Path.{◌∙◌, ◌≡◌, ap, sym}
+use mathlib.Core.Path.{◌∙◌, ◌≡◌, ap, subst, sym}
 use mathlib.Core.Logic.{◌↔◌, ◌⊎◌, inl, inr}
 use mathlib.Core.List.{List}
 use Prim.Native.Nat.{◌%◌, ◌*◌, ◌+◌, ◌-◌, ◌/◌, ◌<◌, ◌^◌, ◌≤◌, min, ℕ}
-use lib.ListN.{drop, get_or}
+use lib.ListN.{drop, get_or, replicate}
+use Rattle.std.proofs.lemmas.List.{get_or-replicate}
 use lib.Pow.{pow-add, pow_mono, pow_pos}
 use native.Mathlib.Decide.{dec_lt}
 use native.Mathlib.Nat.{mul-le-mul_left, mul-suc}
@@ -11,7 +12,7 @@ use native.Mathlib.Omega.{arith}
 use Rattle.preference.specs.Order.{Before, cost_of}
 use Rattle.preference.proofs.CostLaws.{cost_empty, cost_split}
 use Rattle.ranking.specs.Grid.{Grid, Ranked, never_key}
-use Rattle.ranking.specs.Keys.{Keys, key_of, never, widened}
+use Rattle.ranking.specs.Keys.{Keys, KeysWritten, key_of, never, widened}
 use Rattle.ranking.proofs.GridLaws.{key_at_lem, split}
 
 -- a cost and a number as one number, whatever the width of the second
@@ -118,13 +119,24 @@ module _ (ws : List ℕ) (count inner : ℕ) (low high : List ℕ) (c : count �
     keyed = keyed;
   }
 
-  pub ranked : Ranked (cost_of ws) key (2 ^ count) never_key
-  unfolding key_of
-  ranked = record {
-    less = λ m n i j. pair_less 65536 (cost_of ws m) m (cost_of ws n) n (omega (arith, top)) (omega (arith, top));
-    small = λ n i. let s = split key (2 ^ count) low (2 ^ inner) high (2 ^ (count - inner)) grid n i in
-        omega (arith, key_at_lem key (2 ^ count) low (2 ^ inner) high (2 ^ (count - inner)) grid n i, H.small (n / 256) s.0, L.small (n % 256) s.1);
-  }
-    where
-      top : 2 ^ count ≤ 65536
-      top = pow_mono {i = count} {j = 16} c
+-- the keys are written into tables that are filled with never
+pub grid_written : (ws : List ℕ) (count inner lanes blocks : ℕ) (low high : List ℕ) → count ≤ 16 → inner ≡ min count 8 → lanes ≡ 2 ^ inner → blocks ≡ 2 ^ (count - inner)
+    → KeysWritten ws 0 inner (replicate 256 never) low → KeysWritten ws inner (count - inner) (replicate 256 never) high
+    → Grid (key_of (cost_of ws)) (2 ^ count) low lanes high blocks
+grid_written ws count inner lanes blocks low high c is l b L H =
+    subst (λ (x : ℕ). Grid (key_of (cost_of ws)) (2 ^ count) low x high blocks) (sym l)
+    (subst (λ (x : ℕ). Grid (key_of (cost_of ws)) (2 ^ count) low (2 ^ inner) high x) (sym b)
+    (grid ws count inner low high c is L.keys H.keys (λ i m k. L.beyond i m ∙ get_or-replicate 256 i never 0 k)))
+
+-- the keys of a grid of candidates stand in order
+pub ranked : (ws : List ℕ) (count : ℕ) (low : List ℕ) (lanes : ℕ) (high : List ℕ) (blocks : ℕ) → count ≤ 16
+    → Grid (key_of (cost_of ws)) (2 ^ count) low lanes high blocks → Ranked (cost_of ws) (key_of (cost_of ws)) (2 ^ count) never_key
+unfolding key_of
+ranked ws count low lanes high blocks c g = record {
+  less = λ m n i j. pair_less 65536 (cost_of ws m) m (cost_of ws n) n (omega (arith, top)) (omega (arith, top));
+  small = λ n i. let s = split (key_of (cost_of ws)) (2 ^ count) low lanes high blocks g n i in
+      omega (arith, key_at_lem (key_of (cost_of ws)) (2 ^ count) low lanes high blocks g n i, g.tables.high_small (n / 256) s.0, g.tables.low_small (n % 256) s.1);
+}
+  where
+    top : 2 ^ count ≤ 65536
+    top = pow_mono {i = count} {j = 16} c

@@ -2,11 +2,6 @@
 use Rattle.std.specs.Prelude.{◌≡◌, ◌⊎◌, List, ◌<◌, ◌≤◌, ℕ, get_or}
 use Rattle.ranking.specs.Keys.{never}
 
-pub record Lesser (a b r : ℕ) : Type 0 where
-  pub first : r ≤ a
-  pub second : r ≤ b
-  pub one : (r ≡ a) ⊎ (r ≡ b)
-
 -- the key where it is at least `from`, else never
 abbrev pub AtLeast : ℕ → ℕ → ℕ → Type 0
 AtLeast key from r = ((from ≤ key) × (r ≡ key)) ⊎ ((key < from) × (r ≡ never))

@@ -1,5 +1,5 @@
 -- How many candidates come before a key, counted by blocks. Assumes nothing.
-use Rattle.std.specs.Prelude.{◌≡◌, ◌⊎◌, Bool, cond, true, List, ◌%◌, ◌*◌, ◌+◌, ◌-◌, ◌/◌, ◌<◌, ◌≤◌, min, ℕ, ltb, get_or}
+use Rattle.std.specs.Prelude.{cond, List, ◌%◌, ◌*◌, ◌+◌, ◌-◌, ◌/◌, ◌<◌, ◌≤◌, min, ℕ, ltb, get_or}
 use Rattle.lists.specs.Sums.{sum}
 use Rattle.ranking.specs.Keys.{never}
 
@@ -19,20 +19,7 @@ narrow left = 256 * (left / 65536) + min (left % 65536) 256
 unfoldable pub keys_in : List ℕ → ℕ → List ℕ → ℕ → ℕ → ℕ
 keys_in low lanes high blocks key = sum (λ b. keys_below low lanes (narrow (key - 256 * get_or high b 0))) blocks
 
--- what counting before a key needs: lanes and blocks within their tables, and a key below some bound
-pub record Placeable (lanes blocks key bound : ℕ) : Type 0 where
-  pub lanes_most : lanes ≤ 256
-  pub blocks_most : blocks ≤ 256
-  pub small : key < bound
-
 -- the first candidate of a block whose key is r stands past the limit
 pub record Bar (low : List ℕ) (lanes : ℕ) (high : List ℕ) (blocks limit r : ℕ) : Type 0 where
   pub most : r ≤ never
   pub past : r < never → limit < keys_in low lanes high blocks (256 * r)
-
--- the half of some bounds that a bar is in: up to the middle where the middle is past, else after it
-pub record Half (low high middle : ℕ) (past : Bool) (l h : ℕ) : Type 0 where
-  pub ordered : l ≤ h
-  pub smaller : h - l < high - low
-  pub within : h ≤ high
-  pub one : (h ≡ high) ⊎ ((past ≡ true) × (h ≡ middle))

@@ -8,12 +8,7 @@ use crate::NEVER;
 fn joined(least: u32, passes: u64, key: u32) -> u32
     ensures { Joined least passes key result }
 {
-    if passes == 1 {
-        if key < least {
-            return key;
-        }
-    }
-    least
+    if passes == 1 { least.min(key) } else { least }
 }
 
 // The lanes of one word.
@@ -26,11 +21,8 @@ fn in_word(keys: &[u32; 256], words: &[u64; 4], t: usize, known: u32) -> u32
         return known;
     }
     let mut least = known;
-    let mut i: usize = 0;
-    while i < 64 {
-        let lane = 64 * t + i;
-        least = joined(least, (word >> i) % 2, keys[lane]);
-        i += 1;
+    for i in 0..64 {
+        least = joined(least, (word >> i) % 2, keys[64 * t + i]);
     }
     least
 }
@@ -40,10 +32,8 @@ pub fn cheapest(keys: &[u32; 256], words: &[u64; 4]) -> u32
     ensures { Cheapest keys.now words.now 256 result }
 {
     let mut least: u32 = NEVER;
-    let mut t: usize = 0;
-    while t < 4 {
+    for t in 0..4 {
         least = in_word(keys, words, t, least);
-        t += 1;
     }
     least
 }

@@ -10,18 +10,9 @@ fn extend(totals: &mut [u32], top: usize, weight: u32)
     requires { Extendable top weight totals.old }
     ensures { Extended top weight totals.old totals.new }
 {
-    let mut i: usize = 0;
-    while i < top {
+    for i in 0..top {
         totals[top + i] = totals[i] + weight;
-        i += 1;
     }
-}
-
-// A weight as it is counted.
-fn wide(weight: u8) -> u32
-    ensures { (result ≡ weight) × (result ≤ 255) }
-{
-    weight as u32
 }
 
 // The total weights of the candidates of at most eight members, from one on.
@@ -30,13 +21,9 @@ fn write_totals<'a>(totals: &'a mut [u32], weights: &'a [u8; 16], from: usize, m
     ensures { TotalsWritten weights.now from members totals.old totals.new }
 {
     totals[0] = 0;
-    let mut top: usize = 1;
-    let mut j: usize = 0;
-    while j < members {
-        let weight = wide(weights[from + j]);
-        extend(totals, top, weight);
-        top = 2 * top;
-        j += 1;
+    for j in 0..members {
+        let weight = u32::from(weights[from + j]);
+        extend(totals, 1 << j, weight);
     }
 }
 
@@ -46,22 +33,20 @@ fn key(total: u32, candidate: u32) -> u32
     ensures { result ≡ 256 * (17 * total + size candidate) + candidate }
 {
     let ones = AtomSet {
-        bits: candidate as u64,
+        bits: u64::from(candidate),
     }
     .count();
     256 * (17 * total + ones) + candidate
 }
 
-// The keys of the candidates of at most eight members, from one on. What stands past them is left.
+// The keys of the candidates of at most eight members, from one on. What stands past them is left. The weights come with a first place and a
+// count and not as a part of the array, as the definition `Keys` has them.
 pub fn write_keys<'a>(keys: &'a mut [u32], weights: &'a [u8; 16], from: usize, members: usize)
     requires { Writable from members keys.old }
     ensures { KeysWritten weights.now from members keys.old keys.new }
 {
     write_totals(keys, weights, from, members);
-    let count = 1usize << members;
-    let mut i: usize = 0;
-    while i < count {
+    for i in 0..1usize << members {
         keys[i] = key(keys[i], i as u32);
-        i += 1;
     }
 }

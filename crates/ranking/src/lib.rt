@@ -5,6 +5,7 @@ pub mod cheapest;
 pub mod keys;
 pub mod next;
 pub mod place;
+pub mod tables;
 
-// Past the key of any lane or block.
+// Past the key of any lane or block: a number and not None, so that the least of keys needs no case for none.
 pub const NEVER: u32 = 1073741824;

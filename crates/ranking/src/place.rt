@@ -1,36 +1,20 @@
 // Places: how many candidates come before one, counted by blocks.
-ghost use Rattle.std.specs.Prelude.{◌≡◌, ◌*◌, ◌-◌, ◌<◌, ◌≤◌, length};
-ghost use Rattle.ranking.specs.Keys.{never};
-ghost use Rattle.ranking.specs.Place.{Bar, Half, Placeable, below, keys_below, keys_in, narrow};
+ghost use Rattle.std.specs.Prelude.{◌≡◌, ◌*◌, ◌<◌, ◌≤◌, length};
+ghost use Rattle.ranking.specs.Place.{Bar, keys_below, keys_in, narrow};
 
 use crate::NEVER;
+use crate::tables::KeyTables;
 
-fn below(key: u32, bar: u32) -> u32
-    ensures { result ≡ below key bar }
-{
-    if key < bar { 1 } else { 0 }
-}
-
-// How many of the first keys are below a bar.
-pub fn keys_below(keys: &[u32], count: usize, bar: u32) -> u32
-    requires { (count ≤ length keys.now) × (count ≤ 256) }
-    ensures { (result ≡ keys_below keys.now count bar) × (result ≤ count) }
+// How many keys are below a bar.
+pub fn keys_below(keys: &[u32], bar: u32) -> u32
+    requires { length keys.now ≤ 256 }
+    ensures { (result ≡ keys_below keys.now (length keys.now) bar) × (result ≤ length keys.now) }
 {
     let mut n: u32 = 0;
-    let mut i: usize = 0;
-    while i < count {
-        n += below(keys[i], bar);
-        i += 1;
+    for key in keys {
+        n += u32::from(*key < bar);
     }
     n
-}
-
-// What is left of a candidate's key for the lanes of a block.
-fn left(key: u64, block: u32) -> u64
-    ensures { (result ≡ key - 256 * block) × (result ≤ key) }
-{
-    let own = 256 * (block as u64);
-    if key < own { 0 } else { key - own }
 }
 
 // The bar of the lanes whose part of a candidate's key is below what is left.
@@ -40,11 +24,7 @@ fn narrow(left: u64) -> u32
 {
     let number = left % 65536;
     let cost = (left / 65536) as u32;
-    if number < 256 {
-        256 * cost + number as u32
-    } else {
-        256 * cost + 256
-    }
+    256 * cost + number.min(256) as u32
 }
 
 // How many lanes add less to a key than is left. Nothing is left for a block that comes after it.
@@ -55,74 +35,44 @@ fn lanes_below(low: &[u32; 256], lanes: usize, left: u64) -> u32
     if left == 0 {
         return 0;
     }
-    keys_below(low, lanes, narrow(left))
+    keys_below(&low[..lanes], narrow(left))
 }
 
 // How many candidates have a key below the given one.
-pub fn place<'a>(
-    low: &'a [u32; 256],
-    lanes: usize,
-    high: &'a [u32; 256],
-    blocks: usize,
-    key: u64,
-) -> usize
-    requires { Placeable lanes blocks key 274877906944 }
-    ensures { result ≡ keys_in low.now lanes high.now blocks key }
+pub fn place(tables: &KeyTables, key: u64) -> usize
+    requires { key < 274877906944 }
+    ensures { result ≡ keys_in tables.now.low.now tables.now.lanes tables.now.high.now tables.now.blocks key }
 {
     let mut count: u32 = 0;
-    let mut b: usize = 0;
-    while b < blocks {
-        count += lanes_below(low, lanes, left(key, high[b]));
-        b += 1;
+    for b in 0..tables.blocks {
+        // What is left of the key for the lanes of this block.
+        let left = key.saturating_sub(256 * u64::from(tables.high[b]));
+        count += lanes_below(tables.low, tables.lanes, left);
     }
     count as usize
 }
 
-// Where the bar is looked for.
-#[derive(Clone, Copy)]
-struct Bounds {
-    low: u32,
-    high: u32,
-}
-
-// The half that it is in: up to the middle, or past it.
-fn half(bounds: Bounds, middle: u32, past: bool) -> Bounds
-    requires { (bounds.low ≤ middle) × (middle < bounds.high) }
-    ensures { Half bounds.low bounds.high middle past result.low result.high }
+// Blocks from this key on stand past the limit; NEVER where not even the first candidate of the last block does.
+pub fn bar(tables: &KeyTables, limit: usize) -> u32
+    ensures { Bar tables.now.low.now tables.now.lanes tables.now.high.now tables.now.blocks limit result }
 {
-    if past {
-        Bounds {
-            low: bounds.low,
-            high: middle,
-        }
-    } else {
-        Bounds {
-            low: middle + 1,
-            high: bounds.high,
-        }
-    }
-}
-
-// From this key on the first candidate of a block stands past the limit; NEVER where not even that of the last block does.
-pub fn bar<'a>(
-    low: &'a [u32; 256],
-    lanes: usize,
-    high: &'a [u32; 256],
-    last: u32,
-    blocks: usize,
-    limit: usize,
-) -> u32
-    requires { Placeable lanes blocks last never }
-    ensures { Bar low.now lanes high.now blocks limit result }
-{
-    if place(low, lanes, high, blocks, 256 * (last as u64)) <= limit {
+    if tables.lanes * tables.blocks <= limit {
         return NEVER;
     }
-    let mut bounds = Bounds { low: 0, high: last };
-    while bounds.low < bounds.high {
-        let middle = bounds.low + (bounds.high - bounds.low) / 2;
-        let past = limit < place(low, lanes, high, blocks, 256 * (middle as u64));
-        bounds = half(bounds, middle, past);
+    let last = tables.high[tables.blocks - 1];
+    if place(tables, 256 * u64::from(last)) <= limit {
+        return NEVER;
     }
-    bounds.high
+    let mut from: u32 = 0;
+    let mut to = last;
+    // Halving has no range to go over.
+    while from < to {
+        let middle = from + (to - from) / 2;
+        if place(tables, 256 * u64::from(middle)) <= limit {
+            from = middle + 1;
+        } else {
+            to = middle;
+        }
+    }
+    to
 }

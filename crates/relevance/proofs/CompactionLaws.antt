@@ -17,7 +17,7 @@ use Rattle.arrays.proofs.HeadLaws.{room_put}
 use Rattle.arrays.proofs.StartLaws.{start_le}
 use Rattle.relevance.specs.Places.{KeptIn, StartsMoved, room, room_before}
 use Rattle.relevance.specs.Relevance.{kept, kept_levels}
-use Rattle.relevance.proofs.PlaceLaws.{before_le, before_lt, before_most, before_next, before_step, room_in, room_out}
+use Rattle.relevance.proofs.PlaceLaws.{before_le, before_lt, before_most, before_next, before_step, room_in, room_most, room_out}
 
 -- the rules at places 0 to k whose heads are in R are in the arrays h, p, n, each at its place
 abbrev pub Put : ℕ → List ℕ → List ℕ → List ℕ → List ℕ → List ℕ → List ℕ → ℕ → Type 0
@@ -133,7 +133,7 @@ module _ (R : ℕ) (heads positive negated h p n : List ℕ) where
 -- ---- the loop: the rules before place k are put, and what stands at k goes to `place`
 
 pub record Compacting (levels R : ℕ) (heads positive negated starts h p n moved : List ℕ) (place k : ℕ) : Type 0 where
-  pub low : k ≤ get_or starts levels 0
+  pub below : place ≤ k
   pub goes : place ≡ room_before R heads k
   pub wide : Room h p n
   pub begins : StartsMoved levels R heads starts moved
@@ -141,31 +141,22 @@ pub record Compacting (levels R : ℕ) (heads positive negated starts h p n move
 
 module _ (levels R : ℕ) (heads positive negated starts h p n moved : List ℕ) (place k : ℕ) (o : Placed levels heads starts)
     (s : Compacting levels R heads positive negated starts h p n moved place k) where
-  pub compacting_room : k < get_or starts levels 0 → (place < 128) × (k < 128)
-  compacting_room l =
-      let a = s.goes in
-      let b = before_most R heads k in
-      let c = o.ordered.fits in
-      (omega arith, omega arith)
-
   pub compacting_next : k < get_or starts levels 0 → (x : ℕ) → x ≡ place + room R (get_or heads k 0)
       → Compacting levels R heads positive negated starts (set h place (get_or heads k 0)) (set p place (get_or positive k 0)) (set n place (get_or negated k 0))
       moved x (k + 1)
   compacting_next l x e =
       let w = s.wide in
-      let r = compacting_room l in
+      let few = o.ordered.fits in
+      let less = s.below in
       record {
-        low = omega arith;
+        below = omega (arith, room_most R (get_or heads k 0));
         goes = before_step R heads k place x s.goes e;
-        wide = room_put h p n place (get_or heads k 0) (get_or positive k 0) (get_or negated k 0) r.0 (o.singles k r.1) w;
+        wide = room_put h p n place (get_or heads k 0) (get_or positive k 0) (get_or negated k 0) (omega arith) (o.singles k (omega arith)) w;
         begins = s.begins;
         put =
             put_one R heads positive negated h p n k place s.goes (omega (arith, w.head_places)) (omega (arith, w.positive_places))
             (omega (arith, w.negated_places)) s.put;
       }
 
-  pub compacting_done : get_or starts levels 0 ≤ k → KeptIn levels R heads positive negated starts h p n moved
-  compacting_done l =
-      let low = s.low in
-      let e : k ≡ get_or starts levels 0 = omega arith in
-      kept_in R heads positive negated h p n levels starts moved s.begins o s.wide.singles (subst (Put R heads positive negated h p n) e s.put)
+  pub compacting_done : k ≡ get_or starts levels 0 → KeptIn levels R heads positive negated starts h p n moved
+  compacting_done e = kept_in R heads positive negated h p n levels starts moved s.begins o s.wide.singles (subst (Put R heads positive negated h p n) e s.put)

@@ -58,13 +58,6 @@ module _ (heads positive negated : List ℕ) (count : ℕ) where
       (followed_next (rule_at heads positive negated j) (rules_in heads positive negated (j + 1) (count - (j + 1))) S M N
       (subst (λ (x : ℕ). Followed (rules_in heads positive negated x (count - x)) S M) (sym e) a) b)
 
-  pub pass_end : (k : ℕ) → k ≤ 0 → (S N : ℕ) → Followed (rules_in heads positive negated k (count - k)) S N → Followed (rules_in heads positive negated 0 count) S N
-  pass_end k l S N a =
-      let e : k ≡ 0 = omega arith in
-      let all : count - 0 ≡ count = omega arith in
-      subst (λ (x : ℕ). Followed (rules_in heads positive negated 0 x) S N) all
-      (subst (λ (x : ℕ). Followed (rules_in heads positive negated x (count - x)) S N) e a)
-
 -- ---- passes: N is S after one more
 
 -- S is on the way to the relevant atoms
@@ -72,13 +65,7 @@ pub record OnTheWay (rs : List Rule) (request S : ℕ) : Type 0 where
   pub holds : Subset (answer_atoms request) S
   pub least : (X : ℕ) → Bearing rs request X → Subset S X
 
-pub way_start : (rs : List Rule) (request S : ℕ) → S ≡ answer_atoms request → OnTheWay rs request S
-way_start rs request S e = subst (OnTheWay rs request) (sym e) (record { holds = λ k m. m; least = λ X b. b.holds })
-
 module _ (rs : List Rule) (request S N : ℕ) (pass : Followed rs S N) (way : OnTheWay rs request S) where
-  pub way_next : OnTheWay rs request N
-  way_next = record { holds = λ k m. pass.grows k (way.holds k m); least = λ X b. pass.least X b.follows (way.least X b) }
-
   -- the atoms outside become fewer
   pub way_adds : N < 2 ^ 64 → (N ≡ S → ⊥) → 64 - size N < 64 - size S
   way_adds l n =

@@ -1,5 +1,5 @@
 -- How many heads before a place are in a set: where what stands there goes. Assumes nothing.
-use mathlib.Core.Path.{◌∙◌, ◌≡◌, ap, refl, subst}
+use mathlib.Core.Path.{◌≡◌, ap, refl, subst}
 use mathlib.Core.Bool.{Bool, cond, false, true}
 use mathlib.Core.List.{List}
 use Prim.Native.Nat.{◌+◌, ◌-◌, ◌<◌, ◌≤◌, suc, zero, ℕ}
@@ -63,6 +63,3 @@ module _ (R : ℕ) where
     -- as the program comes by them
     pub before_step : (k x y : ℕ) → x ≡ room_before R heads k → y ≡ x + room R (get_or heads k 0) → y ≡ room_before R heads (k + 1)
     before_step k x y e f = omega (arith, before_next k, ap (room_before R heads) (add-one k))
-
-    pub before_at : (j k : ℕ) → j ≡ k → (x : ℕ) → x ≡ room_before R heads j → x ≡ room_before R heads k
-    before_at j k e x f = f ∙ ap (room_before R heads) e

@@ -1,7 +1,7 @@
 -- Where each level begins among the rules that are left. Assumes nothing.
 use mathlib.Core.Path.{◌∙◌, ◌≡◌, ap, sym}
 use mathlib.Core.List.{List}
-use Prim.Native.Nat.{◌+◌, ◌<◌, ◌≤◌, suc, ℕ}
+use Prim.Native.Nat.{◌+◌, ◌<◌, ◌≤◌, ℕ}
 use lib.ListN.{get_or, length, length-set, set}
 use lib.Seq.{get_or-set_other, get_or-set_same}
 use native.Mathlib.Decide.{ℕ_discrete}
@@ -13,7 +13,6 @@ use Rattle.relevance.specs.Places.{StartsMoved, room_before}
 -- the levels below l are moved; what stands at `from` goes to `place`
 pub record Moving (levels R : ℕ) (heads starts moved : List ℕ) (from place l : ℕ) : Type 0 where
   pub places : levels < length moved
-  pub low : l ≤ suc levels
   pub next : l ≤ levels → from ≤ get_or starts l 0
   pub goes : place ≡ room_before R heads from
   pub begins : (i : ℕ) → i < l → get_or moved i 0 ≡ room_before R heads (get_or starts i 0)
@@ -23,7 +22,6 @@ module _ (levels R : ℕ) (heads starts moved : List ℕ) (from place l : ℕ) (
       → Moving levels R heads starts (set moved l x) (get_or starts l 0) x (l + 1)
   moving_next o i x e = record {
     places = simp length-set s.places;
-    low = omega arith;
     next = λ j. rw (add-one l) (o.rising l (omega arith));
     goes = e;
     begins = λ k j. go k j (ℕ_discrete k l);

@@ -3,7 +3,7 @@ use mathlib.Core.Path.{◌∙◌, ◌≡◌, ap, ap₂, subst, sym}
 use mathlib.Core.Logic.{◌⊎◌, inl, inr}
 use mathlib.Core.Bool.{Bool, cond, false, true}
 use mathlib.Core.List.{List}
-use Prim.Native.Nat.{◌%◌, ◌-◌, ◌<◌, ◌^◌, ◌≤◌, min, ℕ}
+use Prim.Native.Nat.{◌%◌, ◌-◌, ◌<◌, ◌^◌, ◌≤◌, ℕ}
 use borrow.Author.Tests.{le-ltb, lt-ltb}
 use lib.Dec.{ltb}
 use lib.ListN.{get_or}
@@ -17,13 +17,13 @@ use Rattle.preference.specs.Order.{cost_of, found, nothing, place, searched, spe
 use Rattle.preference.proofs.OrderLaws.{searched_means, searched_same}
 use Rattle.preference.proofs.OrderTheoremsProof.{other_places}
 use Rattle.relevance.specs.Places.{SameAnswer}
-use Rattle.ranking.specs.Grid.{Grid, Ranked, Settled, Tables, never_key}
+use Rattle.ranking.specs.Grid.{Grid, Ranked, Settled, never_key}
 use Rattle.ranking.specs.Keys.{Keys, key_of, never}
 use Rattle.ranking.specs.Place.{Bar, below, keys_below, keys_in}
 use Rattle.ranking.proofs.GridLaws.{counted}
-use Rattle.ranking.proofs.RankLaws.{grid, lanes_ranked, ranked}
+use Rattle.ranking.proofs.RankLaws.{lanes_ranked, ranked}
 use Rattle.ranking.proofs.SettledLaws.{place_is, settled_found, settled_nothing}
-use Rattle.search.specs.Blocks.{BestOf, KeyTable}
+use Rattle.search.specs.Blocks.{BestOf}
 use Rattle.search.specs.Singles.{BestLane}
 use Rattle.search.specs.Types.{limited}
 use Rattle.search.proofs.BlockLaws.{settled_blocks}
@@ -74,34 +74,26 @@ module _ (ws : List ℕ) (count : ℕ) (low : List ℕ) (c : count ≤ 3) (k : K
 
 -- ---- by blocks
 
-module _ (ws : List ℕ) (count inner : ℕ) (low : List ℕ) (lanes : ℕ) (high : List ℕ) (blocks : ℕ) (c : count ≤ 16) (is : inner ≡ min count 8) (i : lanes ≡ 2 ^ inner)
-    (j : blocks ≡ 2 ^ (count - inner)) (L : KeyTable ws 0 inner low) (H : KeyTable ws inner (count - inner) high) where
+module _ (ws : List ℕ) (count : ℕ) (low : List ℕ) (lanes : ℕ) (high : List ℕ) (blocks : ℕ) (c : count ≤ 16)
+    (g : Grid (key_of (cost_of ws)) (2 ^ count) low lanes high blocks) (test : ℕ → Bool) (limit end best : ℕ) (bar : Bar low lanes high blocks limit end)
+    (h : BestOf test low lanes high blocks end best) where
   abbrev key : ℕ → ℕ
   key = key_of (cost_of ws)
 
-  grid_of : Grid key (2 ^ count) low lanes high blocks
-  grid_of =
-      subst (λ (x : ℕ). Grid key (2 ^ count) low x high blocks) (sym i)
-      (subst (λ (x : ℕ). Grid key (2 ^ count) low (2 ^ inner) high x) (sym j) (grid ws count inner low high c is L.keys H.keys L.beyond))
+  settled : Settled key test (2 ^ count) never_key limit best
+  settled = settled_blocks test low lanes high blocks key (2 ^ count) limit end best g bar h
 
-  pub tables_of_lem : Tables low lanes high blocks
-  tables_of_lem = grid_of.tables
+  pub block_nothing : (tried : ℕ) → never_key ≤ best → tried ≡ 2 ^ count - 1 → limited limit (nothing tried) ≡ searched (cost_of ws) test (2 ^ count) limit
+  block_nothing tried l e =
+      answer_nothing (cost_of ws) key (2 ^ count) never_key (ranked ws count low lanes high blocks c g) test limit best settled tried (pow_pos count) l e
 
-  module _ (test : ℕ → Bool) (limit end best : ℕ) (bar : Bar low lanes high blocks limit end) (h : BestOf test low lanes high blocks end best) where
-    settled : Settled key test (2 ^ count) never_key limit best
-    settled = settled_blocks test low lanes high blocks key (2 ^ count) limit end best grid_of bar h
-
-    pub block_nothing : (tried : ℕ) → never_key ≤ best → tried ≡ 2 ^ count - 1 → limited limit (nothing tried) ≡ searched (cost_of ws) test (2 ^ count) limit
-    block_nothing tried l e =
-        answer_nothing (cost_of ws) key (2 ^ count) never_key (ranked ws count inner low high c is L.keys H.keys L.beyond) test limit best settled tried (pow_pos count) l e
-
-    pub block_found : (at : ℕ) → best < never_key → at ≡ keys_in low lanes high blocks best
-        → limited limit (found (best % 65536) at) ≡ searched (cost_of ws) test (2 ^ count) limit
-    unfolding key_of
-    block_found at l p =
-        answer_found (cost_of ws) key (2 ^ count) never_key (ranked ws count inner low high c is L.keys H.keys L.beyond) test limit best settled (best % 65536) at l
-        (λ n k d. omega (arith, pow_mono {i = count} {j = 16} c))
-        (p ∙ counted key (2 ^ count) low lanes high blocks grid_of best)
+  pub block_found : (at : ℕ) → best < never_key → at ≡ keys_in low lanes high blocks best
+      → limited limit (found (best % 65536) at) ≡ searched (cost_of ws) test (2 ^ count) limit
+  unfolding key_of
+  block_found at l p =
+      answer_found (cost_of ws) key (2 ^ count) never_key (ranked ws count low lanes high blocks c g) test limit best settled (best % 65536) at l
+      (λ n k d. omega (arith, pow_mono {i = count} {j = 16} c))
+      (p ∙ counted key (2 ^ count) low lanes high blocks g best)
 
 -- ---- no trial at all
 

@@ -17,20 +17,20 @@ use Rattle.ranking.specs.Next.{NextKey}
 use Rattle.ranking.specs.Place.{Bar, below}
 use Rattle.ranking.proofs.GridLaws.{counted, inside, key_at_lem, split}
 use Rattle.ranking.proofs.SettledLaws.{count_later}
-use Rattle.search.specs.Blocks.{Best, BestOf, Better, Known, LaneKeys, Last, Visited}
+use Rattle.search.specs.Blocks.{Best, BestOf, Better, Known, Last, Visited}
 
 -- ---- one block
 
 widened_later : (x y : ℕ) → x ≤ y → widened x ≤ widened y
 widened_later x y l = omega arith
 
-pub visited : (levels : ℕ) (h p m s : List ℕ) (request shown : ℕ) (members : List ℕ) (count key best : ℕ) (low words : List ℕ) (lanes lane r : ℕ) → LaneKeys low lanes
+pub visited : (levels : ℕ) (h p m s : List ℕ) (request shown : ℕ) (members : List ℕ) (count key best : ℕ) (low words : List ℕ) (lanes lane r : ℕ) (high : List ℕ) (blocks : ℕ) → Tables low lanes high blocks
     → Unlocking levels h p m s request shown members count (key % 256) words → Cheapest low words 256 lane → Better best (256 * key + widened lane) r
     → Visited (opens_at levels h p m s request shown members count) low lanes key best r
 unfolding opens_at
-visited levels h p m s request shown members count key best low words lanes lane r k u c b = record {
+visited levels h p m s request shown members count key best low words lanes lane r high blocks k u c b = record {
   kept = b.kept;
-  each = λ i l t. omega (arith, b.met, widened_later lane (get_or low i 0) (c.least i (omega (arith, k.most)) (u.each i (omega (arith, k.most)) ∙ t)));
+  each = λ i l t. omega (arith, b.met, widened_later lane (get_or low i 0) (c.least i (omega (arith, k.lanes_most)) (u.each i (omega (arith, k.lanes_most)) ∙ t)));
   one = one b.one;
 }
   where
@@ -42,7 +42,7 @@ visited levels h p m s request shown members count key best low words lanes lane
         go : Dec (i < lanes) → (never_key ≤ r)
             ⊎ ((i : ℕ) × (i < lanes) × (opens_at levels h p m s request shown members count (256 * (key % 256) + i) ≡ true) × (256 * key + widened (get_or low i 0) ≡ r))
         go (yes j) = inr (i, j, sym (u.each i l) ∙ q, omega arith)
-        go (no j) = let z = k.beyond i (omega arith) l in inl (omega arith)
+        go (no j) = let z = k.low_beyond i (omega arith) l in inl (omega arith)
 
     one : (r ≡ best) ⊎ (r ≡ 256 * key + widened lane) → (r ≡ best)
         ⊎ ((never_key ≤ r) ⊎ ((i : ℕ) × (i < lanes) × (opens_at levels h p m s request shown members count (256 * (key % 256) + i) ≡ true) × (256 * key + widened (get_or low i 0) ≡ r)))

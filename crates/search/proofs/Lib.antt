@@ -1,5 +1,4 @@
 -- The laws of the search: candidates one by one, and by blocks.
-pub mod FilledLaws
 pub mod SwitchLaws
 pub mod SingleLaws
 pub mod BlockLaws

@@ -1,12 +1,7 @@
 -- Candidates by blocks, in order of the blocks' keys. Assumes nothing.
-use Rattle.std.specs.Prelude.{◌≡◌, ◌⊎◌, Bool, false, true, List, ◌%◌, ◌*◌, ◌+◌, ◌-◌, ◌<◌, ◌^◌, ◌≤◌, ℕ, get_or}
-use Rattle.ranking.specs.Grid.{Tables, key_at, never_key}
-use Rattle.ranking.specs.Keys.{Keys, never, widened}
-
--- the keys of the candidates of some members, from one on; past them never
-pub record KeyTable (weights : List ℕ) (from members : ℕ) (table : List ℕ) : Type 0 where
-  pub keys : Keys weights from members table
-  pub beyond : (i : ℕ) → 2 ^ members ≤ i → i < 256 → get_or table i 0 ≡ never
+use Rattle.std.specs.Prelude.{◌≡◌, ◌⊎◌, Bool, false, true, List, ◌%◌, ◌*◌, ◌+◌, ◌<◌, ◌≤◌, ℕ, get_or}
+use Rattle.ranking.specs.Grid.{key_at, never_key}
+use Rattle.ranking.specs.Keys.{widened}
 
 -- the lesser of two keys
 pub record Better (best key r : ℕ) : Type 0 where
@@ -18,23 +13,6 @@ pub record Better (best key r : ℕ) : Type 0 where
 pub record Last (key end best : ℕ) (r : Bool) : Type 0 where
   pub yes : r ≡ true → (end ≤ key) ⊎ (best < 256 * key)
   pub no : r ≡ false → key < end
-
--- what the bar of a limit needs: lanes and blocks within their tables, a block at least, and a key of the last one
-pub record Limitable (lanes : ℕ) (high : List ℕ) (blocks : ℕ) : Type 0 where
-  pub lanes_most : lanes ≤ 256
-  pub blocks_some : 0 < blocks
-  pub blocks_most : blocks ≤ 256
-  pub last_key : get_or high (blocks - 1) 0 < never
-
--- tables of keys, and the key of the blocks where the search ends
-pub record Bounded (low : List ℕ) (lanes : ℕ) (high : List ℕ) (blocks end : ℕ) : Type 0 where
-  pub tables : Tables low lanes high blocks
-  pub last : end ≤ never
-
--- past the lanes stands never
-pub record LaneKeys (low : List ℕ) (lanes : ℕ) : Type 0 where
-  pub most : lanes ≤ 256
-  pub beyond : (i : ℕ) → lanes ≤ i → i < 256 → get_or low i 0 ≡ never
 
 module _ (test : ℕ → Bool) (low : List ℕ) (lanes : ℕ) where
   -- the best so far, and of the block of a key

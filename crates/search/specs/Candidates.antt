@@ -1,5 +1,13 @@
--- How many candidates there are. Assumes nothing.
-use Rattle.std.specs.Prelude.{◌≡◌, ◌<◌, ◌^◌, ◌≤◌, ℕ}
+-- The candidates of a search. Assumes nothing.
+use Rattle.std.specs.Prelude.{◌≡◌, Bool, ◌<◌, ◌^◌, ◌≤◌, ℕ}
+use Rattle.arrays.specs.Arrays.{level_count}
+use Rattle.preference.specs.InArrays.{opens_at}
+use Rattle.preference.specs.declared.Search.{Search}
+
+-- candidate n unlocks the request
+abbrev pub passes : Search → ℕ → Bool
+passes s n =
+    opens_at level_count s.rules.now.rules.heads s.rules.now.rules.positive s.rules.now.rules.negated s.rules.now.starts s.request s.shown s.members.now s.count n
 
 -- r is how many some members have, 16 at most
 pub record CandidatesOf (members r : ℕ) : Type 0 where

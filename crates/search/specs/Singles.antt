@@ -1,7 +1,5 @@
 -- Candidates one by one, with the best so far. Assumes nothing.
-use Rattle.std.specs.Prelude.{◌≡◌, ◌⊎◌, Bool, false, true, List, ◌<◌, ◌≤◌, suc, zero, ℕ, get_or}
-use Rattle.arrays.specs.Arrays.{Placed}
-use Rattle.preference.specs.InArrays.{opens_at}
+use Rattle.std.specs.Prelude.{◌≡◌, ◌⊎◌, Bool, true, List, ◌<◌, ◌≤◌, suc, zero, ℕ, get_or}
 use Rattle.ranking.specs.Keys.{never}
 
 -- the candidate whose turn is the k-th of seven: 1, 2, 4, 3, 5, 6, 7
@@ -11,12 +9,6 @@ turn_of (suc zero) = 2
 turn_of (suc (suc zero)) = 4
 turn_of (suc (suc (suc zero))) = 3
 turn_of (suc (suc (suc (suc k)))) = suc (suc (suc (suc (suc k))))
-
--- rules in arrays, three members at most, and the empty candidate does not unlock the request
-pub record FewMembers (levels : ℕ) (heads positive negated starts : List ℕ) (request shown : ℕ) (members : List ℕ) (count : ℕ) : Type 0 where
-  pub placed : Placed levels heads starts
-  pub few : count ≤ 3
-  pub locked : opens_at levels heads positive negated starts request shown members count 0 ≡ false
 
 -- the key where the candidate passes and it is better, else the best so far
 pub record Tried (passes : Bool) (key best r : ℕ) : Type 0 where

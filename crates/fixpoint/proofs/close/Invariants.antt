@@ -11,8 +11,8 @@ use Rattle.fixpoint.proofs.close.Given as goal
 abbrev pub Closing : List Rule → ℕ → ℕ → ℕ → Type 0
 Closing rs S R n = Running 1 (λ _. pass_over S rs) (λ _. S) (λ _. R) n
 
-abbrev pub invariant-loop-reached : goal.invariant-loop-reached
-invariant-loop-reached l = Closing (rules_in l.heads l.positive l.negated l.from (l.to - l.from)) l.set.bits l.reached.bits l.passes
+abbrev pub invariant-loop-set : goal.invariant-loop-set
+invariant-loop-set l = Closing (rules_in l.rules.heads l.rules.positive l.rules.negated l.from (l.to - l.from)) l.set.bits l.reached.bits l.passes
 
-abbrev pub decreases-loop-reached : goal.decreases-loop-reached
-decreases-loop-reached l = 64 - l.passes
+abbrev pub decreases-loop-set : goal.decreases-loop-set
+decreases-loop-set l = 64 - l.passes

@@ -1,26 +1,25 @@
--- `fixpoint::pass` meets its contract. The loop's invariant: what is left of the rules makes of the set what all of them make of the first
--- one. Assumes nothing.
-use mathlib.Core.Path.{refl}
+-- `fixpoint::pass` meets its contract: its loop's invariant, and what is left after the last rule. Assumes nothing.
+use mathlib.Core.Path.{◌≡◌}
+use mathlib.Core.Bool.{◌&&◌, cond}
+use lib.ListN.{get_or}
 use native.Mathlib.Omega.{arith}
+use Rattle.atoms.specs.Sets.{disjoint, subset, union}
 use Rattle.arrays.proofs.ArrayLaws.{pass_done_at, pass_next_at}
 use Rattle.fixpoint.proofs.pass.Goals as goal
-
-pub loop-k-init : goal.loop-k-init
-loop-k-init c = record { begun = omega arith; left = refl }
+use Rattle.fixpoint.proofs.pass.Goals.{then-body_holds, else-body_holds}
 
 pub loop-k-preserved : goal.loop-k-preserved
-loop-k-preserved c = let a = c.args in
+loop-k-preserved c =
+    let rules = c.args.rules.now in
     let l = c.loop-k in
-    let head = c.requires.singles l.k (omega arith) in
-    record {
-      begun = omega (arith, l.invariant.begun);
-      left =
-          pass_next_at a.heads.now a.positive.now a.negated.now l.k a.to c.loop-k-test.true head
-          a.below.bits l.reached.bits c.fire-reached.result.bits _ c.fire-reached.ensures l.invariant.left;
-    }
+    let S = l.reached.bits in
+    let B = c.args.below.bits in
+    let next : c.if-body_holds.reached.bits ≡ cond (disjoint (get_or rules.negated l.k 0) B && subset (get_or rules.positive l.k 0) S) (union S (get_or rules.heads l.k 0)) S =
+    elim c.if-body_holds.branch [ then-body_holds w ↦ simp (← c.body_holds.ensures, w.if-body_holds.true) (cc) | else-body_holds w ↦ simp (← c.body_holds.ensures, w.if-body_holds.false) (cc) ] in
+    pass_next_at rules.heads rules.positive rules.negated l.k c.args.to (omega arith) (c.requires.singles l.k (omega arith)) B S _ _ next l.invariant
 
 pub returns : goal.returns
-returns c = let a = c.args in
+returns c =
+    let rules = c.args.rules.now in
     let l = c.loop-k in
-    pass_done_at a.heads.now a.positive.now a.negated.now l.k a.to c.loop-k-test.false
-    a.below.bits l.reached.bits _ l.invariant.left
+    pass_done_at rules.heads rules.positive rules.negated l.k c.args.to (omega arith) c.args.below.bits l.reached.bits _ l.invariant

@@ -7,7 +7,7 @@ use Rattle.lane_fixpoint.proofs.close.Goals as goal
 pub loop-progress-init : goal.loop-progress-init
 loop-progress-init c =
     record {
-      closing = closing_first _ _ _ _ _ _ _ c.requires.placed.0.ordered c.reduce.ensures;
+      closing = closing_first _ _ _ _ _ _ _ c.requires.placed.ordered c.reduce.ensures;
       covers = covers_same _ _ _ c.reduce.ensures.same c.requires.covered;
       stale = stale_none _ _ _ _ _ _;
     }
@@ -18,7 +18,7 @@ overflow_add-passes c = omega (arith, closing_few _ _ _ _ _ _ _ _ c.loop-progres
 pub returns-then-progress-eq0-clause-count : goal.returns-then-progress-eq0-clause-count
 returns-then-progress-eq0-clause-count c =
     let e = c.pass-progress.ensures in
-    let low = c.requires.placed.0.ordered in
+    let low = c.requires.placed.ordered in
     let u = c.reduce.ensures in
     let closed = closing_idle _ _ _ _ _ _ _ _ _ _ c.loop-progress.invariant.closing e c.if-progress-eq0.true in
     lanes_closed _ _ _ _ _ _ _ low u _ _ closed
@@ -29,7 +29,7 @@ loop-progress-preserved c =
     record {
       closing = closing_next _ _ _ _ _ _ _ _ _ _ c.loop-progress.invariant.closing e (search rules);
       covers = e.covers;
-      stale = stale_to _ _ _ _ _ _ _ c.requires.placed.0.ordered e.stale;
+      stale = stale_to _ _ _ _ _ _ _ c.requires.placed.ordered e.stale;
     }
 
 pub loop-progress-smaller : goal.loop-progress-smaller

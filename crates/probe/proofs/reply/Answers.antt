@@ -18,7 +18,7 @@ pub overflow_add-result-in-Nothing : goal.overflow_add-result-in-Nothing
 overflow_add-result-in-Nothing c = record { fits = omega (arith, c.requires.1, ap (λ a. trials (result_of a)) c.in-Nothing.is) }
 
 pub returns-in-Found : goal.returns-in-Found
-returns-in-Found c = simp (c.switched-asked.ensures, c.in-Found.is)
+returns-in-Found c = simp (c.from.ensures, c.switched-asked.ensures, c.in-Found.is)
 
 pub returns-in-Nothing : goal.returns-in-Nothing
 returns-in-Nothing c = simp c.in-Nothing.is

@@ -4,8 +4,8 @@ use Rattle.search.proofs.by_relevant_rules.Goals as goal
 
 pub returns : goal.returns
 returns c =
-    let a = c.args in
-    let rules = c.relevant_rules-rules in
+    let s = c.args.search.now in
+    let r = s.rules.now in
     c.by_blocks.ensures
-    ∙ answer_relevant _ _ a.heads.now a.positive.now a.negated.now a.starts.now _ _ _ _ rules.ensures a.weights.now a.shown a.members.now a.count
-    a.limit
+    ∙ answer_relevant _ _ r.rules.heads r.rules.positive r.rules.negated r.starts _ _ _ _ c.relevant_rules-rules.ensures c.args.weights.now s.shown s.members.now
+    s.count c.args.limit

@@ -1,12 +1,7 @@
-use Prim.Native.Nat.{◌-◌}
 use Rattle.arrays.specs.Arrays.{level_count}
-use Rattle.arrays.proofs.EndLaws.{Reached}
 use Rattle.lanes.proofs.EvaluateLaws.{Evaluating}
 use Rattle.lanes.proofs.levels.evaluate.Given as goal
 
-abbrev pub invariant-loop-from : goal.invariant-loop-from
-invariant-loop-from l =
-    Reached level_count l.starts l.level l.from × Evaluating level_count l.heads l.positive l.negated l.starts l.initial.table l.table l.reached l.level
-
-abbrev pub decreases-loop-from : goal.decreases-loop-from
-decreases-loop-from l = level_count - l.level
+abbrev pub invariant-loop-level : goal.invariant-loop-level
+invariant-loop-level l =
+    Evaluating level_count l.rules.rules.heads l.rules.rules.positive l.rules.rules.negated l.rules.starts l.initial.table.words l.table.words l.reached l.level

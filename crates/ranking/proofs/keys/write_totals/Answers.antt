@@ -1,5 +1,5 @@
-use mathlib.Core.Path.{ap, refl}
-use Prim.Native.Nat.{◌^◌, suc, ℕ}
+use mathlib.Core.Path.{◌≡◌}
+use Prim.Native.Nat.{◌%◌, ◌*◌, ◌+◌, ◌^◌, ◌≤◌, suc}
 use lib.ListN.{length-set}
 use lib.Pow.{pow_mono, pow_pos}
 use lib.Seq.{get_or-set_same}
@@ -10,34 +10,23 @@ use native.Mathlib.Omega.{arith}
 use Rattle.ranking.proofs.keys.write_totals.Goals as goal
 
 pub loop-j-init : goal.loop-j-init
-loop-j-init c =
-    let x = c.args.totals.now in
-    record {
-      low = omega arith;
-      power = refl;
-      room = simp length-set c.requires.room;
-      written = totals_none _ _ _ (get_or-set_same x 0 0 0 (omega (arith, pow_pos c.args.members)));
-    }
+loop-j-init c = totals_none _ _ _ (get_or-set_same c.args.totals.now 0 0 0 (omega (arith, pow_pos c.args.members)))
 
 pub extend-requires : goal.extend-requires
 extend-requires c =
     let v = c.loop-j in
     let m = pow_mono {i = v.j} {j = 7} (omega arith) in
-    let t = v.invariant.written in
     let d = pow_mono {i = suc v.j} {j = c.args.members} (omega arith) in
     record {
       few = omega arith;
-      room = omega (arith, t.long, pow-suc 2 v.j);
-      fits = λ i k. omega (arith, t.small i (omega arith), c.wide-weight.ensures.1);
+      room = omega (arith, v.invariant.long, length-set c.args.totals.now 0 0, pow-suc 2 v.j);
+      fits = λ i k. omega (arith, v.invariant.small i (omega arith), c.from-weight.ensures, c.fits-weights (c.args.from + v.j));
     }
 
 pub loop-j-preserved : goal.loop-j-preserved
 loop-j-preserved c =
     let v = c.loop-j in
-    let w = c.wide-weight.ensures in
-    record {
-      low = omega arith;
-      power = omega (arith, pow-suc 2 v.j, ap (λ (x : ℕ). 2 ^ x) (add-one v.j));
-      room = v.invariant.room;
-      written = rw add-one (totals_more _ _ _ _ _ _ _ v.invariant.written w.0 w.1 (rw v.invariant.power at c.extend.ensures));
-    }
+    let m = pow_mono {i = v.j} {j = 7} (omega arith) in
+    let e : 1 * 2 ^ v.j % 18446744073709551616 ≡ 2 ^ v.j = omega arith in
+    let w : c.from-weight.result ≤ 255 = omega (arith, c.from-weight.ensures, c.fits-weights (c.args.from + v.j)) in
+    rw add-one (totals_more _ _ _ _ _ _ _ v.invariant c.from-weight.ensures w (rw e at c.extend.ensures))

@@ -2,9 +2,8 @@ use Prim.Native.Nat.{◌-◌}
 use Rattle.ranking.proofs.PlaceLaws.{Between}
 use Rattle.ranking.proofs.place.bar.Given as goal
 
-abbrev pub invariant-loop-bounds : goal.invariant-loop-bounds
-invariant-loop-bounds l =
-    Between l.low l.lanes l.high l.blocks l.limit l.bounds.low l.bounds.high
+abbrev pub invariant-loop-from : goal.invariant-loop-from
+invariant-loop-from l = Between l.tables.low.now l.tables.lanes l.tables.high.now l.tables.blocks l.limit l.from l.to
 
-abbrev pub decreases-loop-bounds : goal.decreases-loop-bounds
-decreases-loop-bounds l = l.bounds.high - l.bounds.low
+abbrev pub decreases-loop-from : goal.decreases-loop-from
+decreases-loop-from l = l.to - l.from

@@ -1,9 +1,7 @@
-use Prim.Native.Nat.{◌-◌}
-use Rattle.ranking.proofs.PlaceLaws.{KeysCounted}
+use mathlib.Core.Path.{◌≡◌}
+use Prim.Native.Nat.{◌≤◌}
+use Rattle.ranking.specs.Place.{keys_below}
 use Rattle.ranking.proofs.place.keys_below.Given as goal
 
-abbrev pub invariant-loop-i : goal.invariant-loop-i
-invariant-loop-i l = KeysCounted l.keys l.count l.bar l.i l.n
-
-abbrev pub decreases-loop-i : goal.decreases-loop-i
-decreases-loop-i l = l.count - l.i
+abbrev pub invariant-loop-key : goal.invariant-loop-key
+invariant-loop-key l = (l.n ≡ keys_below l.keys l.key-index l.bar) × (l.n ≤ l.key-index)

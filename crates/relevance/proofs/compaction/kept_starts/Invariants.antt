@@ -1,10 +1,6 @@
-use Prim.Native.Nat.{◌-◌, suc}
 use Rattle.arrays.specs.Arrays.{level_count}
 use Rattle.relevance.proofs.StartLaws.{Moving}
 use Rattle.relevance.proofs.compaction.kept_starts.Given as goal
 
 abbrev pub invariant-loop-l : goal.invariant-loop-l
-invariant-loop-l l = Moving level_count l.set.bits l.heads l.starts l.moved l.from l.place l.l
-
-abbrev pub decreases-loop-l : goal.decreases-loop-l
-decreases-loop-l l = suc level_count - l.l
+invariant-loop-l l = Moving level_count l.set.bits l.rules.rules.heads l.rules.starts l.moved l.from l.place l.l

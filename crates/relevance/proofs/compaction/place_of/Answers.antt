@@ -11,4 +11,4 @@ pub loop-k-preserved : goal.loop-k-preserved
 loop-k-preserved c =
     let a = c.args in
     let l = c.loop-k in
-    (omega arith, before_step a.set.bits a.heads.now l.k l.next _ l.invariant.1 c.after-next.ensures)
+    before_step a.set.bits a.heads.now l.k l.next _ l.invariant c.after-next.ensures

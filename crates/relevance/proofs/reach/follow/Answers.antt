@@ -10,12 +10,14 @@ use Rattle.relevance.proofs.reach.follow.Goals as goal
 pub returns-then-is_disjoint : goal.returns-then-is_disjoint
 returns-then-is_disjoint c =
     let a = c.args in
-    followed_out (rule_at a.heads.now a.positive.now a.negated.now a.k) a.set.bits
-    (head_out a.set.bits (get_or a.heads.now a.k 0) c.requires.1 (sym c.is_disjoint.ensures ∙ c.if-is_disjoint.true))
+    let r = a.rules.now in
+    followed_out (rule_at r.heads r.positive r.negated a.k) a.set.bits
+    (head_out a.set.bits (get_or r.heads a.k 0) c.requires.1 (sym c.is_disjoint.ensures ∙ c.if-is_disjoint.true))
 
 pub returns : goal.returns
 returns c =
     let a = c.args in
-    followed_in (rule_at a.heads.now a.positive.now a.negated.now a.k) a.set.bits c.union-2.result.bits
-    (head_in a.set.bits (get_or a.heads.now a.k 0) c.requires.1 (sym c.is_disjoint.ensures ∙ c.if-is_disjoint.false))
-    (c.union-2.ensures ∙ ap (λ (x : ℕ). union x (get_or a.negated.now a.k 0)) c.union.ensures)
+    let r = a.rules.now in
+    followed_in (rule_at r.heads r.positive r.negated a.k) a.set.bits c.union-2.result.bits
+    (head_in a.set.bits (get_or r.heads a.k 0) c.requires.1 (sym c.is_disjoint.ensures ∙ c.if-is_disjoint.false))
+    (c.union-2.ensures ∙ ap (λ (x : ℕ). union x (get_or r.negated a.k 0)) c.union.ensures)

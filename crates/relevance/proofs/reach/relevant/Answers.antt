@@ -1,12 +1,13 @@
+use mathlib.Core.Path.{◌∙◌, sym}
 use native.Mathlib.Omega.{arith}
-use Rattle.arrays.specs.Arrays.{rules_in}
-use Rattle.relevance.proofs.FollowLaws.{way_adds}
+use borrow.Author.Tests.{eqb-false}
+use Rattle.validation.proofs.TestLaws.{eqb_true}
+use Rattle.relevance.proofs.FollowLaws.{way_adds, way_end}
 use Rattle.relevance.proofs.reach.relevant.Goals as goal
 
-pub loop-reached-smaller : goal.loop-reached-smaller
-loop-reached-smaller c =
-    let a = c.args in
-    let l = c.loop-reached in
-    let p = c.follow_all-next in
-    let rs = rules_in a.heads.now a.positive.now a.negated.now 0 a.count in
-    way_adds rs a.request l.reached.bits p.result.bits p.ensures l.invariant (omega arith) c.if-next-reached.false
+pub returns-then-eq : goal.returns-then-eq
+returns-then-eq c = way_end _ _ _ _ c.follow_all-next.ensures c.loop-next.invariant (eqb_true _ _ (sym c.eq.ensures ∙ c.if-eq.true))
+
+pub loop-next-smaller : goal.loop-next-smaller
+loop-next-smaller c =
+    way_adds _ _ _ _ c.follow_all-next.ensures c.loop-next.invariant (omega arith) (eqb-false _ _ (sym c.eq.ensures ∙ c.if-eq.false))

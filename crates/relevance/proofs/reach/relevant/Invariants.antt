@@ -4,8 +4,8 @@ use Rattle.arrays.specs.Arrays.{rules_in}
 use Rattle.relevance.proofs.FollowLaws.{OnTheWay}
 use Rattle.relevance.proofs.reach.relevant.Given as goal
 
-abbrev pub invariant-loop-reached : goal.invariant-loop-reached
-invariant-loop-reached l = OnTheWay (rules_in l.heads l.positive l.negated 0 l.count) l.request l.reached.bits
+abbrev pub invariant-loop-next : goal.invariant-loop-next
+invariant-loop-next l = OnTheWay (rules_in l.rules.heads l.rules.positive l.rules.negated 0 l.count) l.request l.reached.bits
 
-abbrev pub decreases-loop-reached : goal.decreases-loop-reached
-decreases-loop-reached l = 64 - size l.reached.bits
+abbrev pub decreases-loop-next : goal.decreases-loop-next
+decreases-loop-next l = 64 - size l.reached.bits

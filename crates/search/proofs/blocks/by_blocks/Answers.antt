@@ -1,43 +1,38 @@
 use mathlib.Core.Path.{◌∙◌}
 use Prim.Native.Nat.{◌-◌}
 use native.Mathlib.Omega.{arith}
-use Rattle.search.proofs.AnswerLaws.{block_found, block_nothing, tables_of_lem}
+use lib.Pow.{pow_mono}
+use Rattle.ranking.proofs.RankLaws.{grid_written}
+use Rattle.search.proofs.AnswerLaws.{block_found, block_nothing}
 use Rattle.search.proofs.blocks.by_blocks.Goals as goal
 
-pub limit_bar-end-requires : goal.limit_bar-end-requires
-limit_bar-end-requires c =
-    let t = tables_of_lem _ _ _ _ _ _ _ (omega arith) c.lesser-inner.ensures c.candidates-lanes.ensures.power
-    c.candidates-blocks.ensures.power c.table-low.ensures c.table-high.ensures in
-    record {
-      lanes_most = t.lanes_most;
-      blocks_some = c.candidates-blocks.ensures.some;
-      blocks_most = t.blocks_most;
-      last_key = omega (arith, t.high_small (c.candidates-blocks.result - 1) (omega arith));
-    }
+pub write_keys-requires : goal.write_keys-requires
+write_keys-requires c =
+    let n = c.args.search.now.searchable.switches.0 in
+    let m = pow_mono {i = c.min-inner.result} {j = 8} (omega arith) in
+    record { few = omega arith; within = omega arith; room = omega arith }
 
-pub best_of-best-requires : goal.best_of-best-requires
-best_of-best-requires c =
-    let t = tables_of_lem _ _ _ _ _ _ _ (omega arith) c.lesser-inner.ensures c.candidates-lanes.ensures.power
-    c.candidates-blocks.ensures.power c.table-low.ensures c.table-high.ensures in
-    (c.requires, record { tables = t; last = c.limit_bar-end.ensures.most })
+pub write_keys-requires-2 : goal.write_keys-requires-2
+write_keys-requires-2 c =
+    let n = c.args.search.now.searchable.switches.0 in
+    let m = pow_mono {i = c.args.search.now.count - c.min-inner.result} {j = 8} (omega arith) in
+    record { few = omega arith; within = omega arith; room = omega arith }
+
+pub invariant_of-tables : goal.invariant_of-tables
+invariant_of-tables c =
+    let g = grid_written _ _ _ _ _ _ _ c.args.search.now.searchable.switches.0 c.min-inner.ensures c.candidates-lanes.ensures.power c.candidates-blocks.ensures.power c.write_keys.ensures c.write_keys-2.ensures in
+    record { tables = g.tables; some = c.candidates-blocks.ensures.some }
 
 pub returns-then-best-ge-NEVER_KEY : goal.returns-then-best-ge-NEVER_KEY
 returns-then-best-ge-NEVER_KEY c =
+    let g = grid_written _ _ _ _ _ _ _ c.args.search.now.searchable.switches.0 c.min-inner.ensures c.candidates-lanes.ensures.power c.candidates-blocks.ensures.power c.write_keys.ensures c.write_keys-2.ensures in
     c.nothing.ensures
-    ∙ block_nothing _ _ _ _ _ _ _ c.requires.switches.0 c.lesser-inner.ensures c.candidates-lanes.ensures.power
-    c.candidates-blocks.ensures.power c.table-low.ensures c.table-high.ensures _ _ _ _
-    c.limit_bar-end.ensures c.best_of-best.ensures _ c.if-best-ge-NEVER_KEY.true
-    (omega (arith, c.candidates.ensures.power))
-
-pub place-before-requires : goal.place-before-requires
-place-before-requires c =
-    let t = tables_of_lem _ _ _ _ _ _ _ c.requires.switches.0 c.lesser-inner.ensures c.candidates-lanes.ensures.power
-    c.candidates-blocks.ensures.power c.table-low.ensures c.table-high.ensures in
-    record { lanes_most = t.lanes_most; blocks_most = t.blocks_most; small = omega arith }
+    ∙ block_nothing _ _ _ _ _ _ c.args.search.now.searchable.switches.0 g _ _ _ _ c.bar-end.ensures c.best_of-best.ensures _
+    c.if-best-ge-NEVER_KEY.true (omega (arith, c.candidates.ensures.power))
 
 pub returns : goal.returns
 returns c =
+    let g = grid_written _ _ _ _ _ _ _ c.args.search.now.searchable.switches.0 c.min-inner.ensures c.candidates-lanes.ensures.power c.candidates-blocks.ensures.power c.write_keys.ensures c.write_keys-2.ensures in
     c.found.ensures
-    ∙ block_found _ _ _ _ _ _ _ c.requires.switches.0 c.lesser-inner.ensures c.candidates-lanes.ensures.power
-    c.candidates-blocks.ensures.power c.table-low.ensures c.table-high.ensures _ _ _ _
-    c.limit_bar-end.ensures c.best_of-best.ensures _ (omega arith) c.place-before.ensures
+    ∙ block_found _ _ _ _ _ _ c.args.search.now.searchable.switches.0 g _ _ _ _ c.bar-end.ensures c.best_of-best.ensures _ (omega arith)
+    c.place-before.ensures

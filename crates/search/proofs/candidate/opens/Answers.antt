@@ -8,7 +8,8 @@ use Rattle.search.proofs.candidate.opens.Goals as goal
 pub returns : goal.returns
 unfolding opens_at
 returns c =
-    let a = c.args in
+    let s = c.args.search.now in
+    let r = s.rules.now in
     c.unlocks.ensures
-    ∙ ap (λ (x : ℕ). grants a.request (evaluated level_count a.heads.now a.positive.now a.negated.now a.starts.now x))
+    ∙ ap (λ (x : ℕ). grants s.request (evaluated level_count r.rules.heads r.rules.positive r.rules.negated r.starts x))
     (c.credentials-credentials.ensures ∙ c.switched.ensures)

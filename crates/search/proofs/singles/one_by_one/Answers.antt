@@ -1,36 +1,39 @@
-use mathlib.Core.Path.{◌∙◌, refl}
-use lib.ListN.{replicate}
+use mathlib.Core.Path.{◌∙◌}
 use lib.Pow.{pow_mono}
+use Rattle.std.proofs.lemmas.List.{get_or-replicate, length-take}
 use Rattle.ranking.specs.Keys.{never}
+use Rattle.ranking.proofs.PlaceLaws.{keys_taken}
 use Rattle.search.proofs.AnswerLaws.{single_found, single_nothing}
-use Rattle.search.proofs.FilledLaws.{all_are_lem, all_are}
 use native.Mathlib.Omega.{arith}
 use Rattle.search.proofs.singles.one_by_one.Goals as goal
 
 pub write_keys-requires : goal.write_keys-requires
 write_keys-requires c =
-    let m = pow_mono {i = c.args.count} {j = 3} c.requires.few in
+    let m = pow_mono {i = c.args.search.now.count} {j = 3} c.requires.few in
     record { few = omega arith; within = omega arith; room = omega arith }
 
 pub returns-then-best-ge-NEVER : goal.returns-then-best-ge-NEVER
-unfolding all_are
 returns-then-best-ge-NEVER c =
     let w = c.write_keys.ensures in
     c.nothing.ensures
-    ∙ single_nothing _ _ _ c.requires.few w.keys _ _ _ _ c.candidates-lanes.ensures.power (λ i k l. w.beyond i k ∙ all_are_lem never (replicate 8 never) refl i l) c.requires.locked
-    c.best_lane-best.ensures c.if-best-ge-NEVER.true
+    ∙ single_nothing _ _ _ c.requires.few w.keys _ _ _ _ c.candidates-lanes.ensures.power (λ i k l. w.beyond i k ∙ get_or-replicate 8 i never 0 l)
+    c.requires.locked c.best_lane-best.ensures c.if-best-ge-NEVER.true
 
-pub keys_below-place-requires : goal.keys_below-place-requires
-keys_below-place-requires c =
-    let m = pow_mono {i = c.args.count} {j = 3} c.requires.few in
-    let l = c.write_keys.ensures.long in
-    let n = c.candidates-lanes.ensures.power in
-    (omega arith, omega arith)
+pub slice_bounds-low-end : goal.slice_bounds-low-end
+slice_bounds-low-end c =
+    let m = pow_mono {i = c.args.search.now.count} {j = 3} c.requires.few in
+    omega (arith, c.write_keys.ensures.long, c.candidates-lanes.ensures.power)
+
+pub slice_bounds-keys_below-end : goal.slice_bounds-keys_below-end
+slice_bounds-keys_below-end c =
+    let m = pow_mono {i = c.args.search.now.count} {j = 3} c.requires.few in
+    omega (arith, length-take c.candidates-lanes.result c.write_keys.new.keys, c.write_keys.ensures.long, c.candidates-lanes.ensures.power)
 
 pub returns : goal.returns
-unfolding all_are
 returns c =
     let w = c.write_keys.ensures in
+    let m = pow_mono {i = c.args.search.now.count} {j = 3} c.requires.few in
     c.found.ensures
-    ∙ single_found _ _ _ c.requires.few w.keys _ _ _ _ c.candidates-lanes.ensures.power (λ i k l. w.beyond i k ∙ all_are_lem never (replicate 8 never) refl i l) c.requires.locked
-    c.best_lane-best.ensures _ (omega arith) c.keys_below-place.ensures.0
+    ∙ single_found _ _ _ c.requires.few w.keys _ _ _ _ c.candidates-lanes.ensures.power (λ i k l. w.beyond i k ∙ get_or-replicate 8 i never 0 l)
+    c.requires.locked c.best_lane-best.ensures _ (omega arith)
+    (c.keys_below-place.ensures.0 ∙ keys_taken c.write_keys.new.keys c.candidates-lanes.result c.best_lane-best.result (omega (arith, w.long, c.candidates-lanes.ensures.power)))

@@ -4,13 +4,13 @@ use native.Mathlib.Omega.{arith}
 use Rattle.search.proofs.SingleLaws.{turn_2, turn_3, turn_other}
 use Rattle.search.proofs.singles.turn.Goals as goal
 
-pub returns-then-k-eq2 : goal.returns-then-k-eq2
-returns-then-k-eq2 c = (turn_2 _ _ c.if-k-eq2.true refl, omega arith)
+pub returns-in-2 : goal.returns-in-2
+returns-in-2 c = (turn_2 _ _ c.in-2.is refl, omega arith)
 
-pub returns-then-k-eq3 : goal.returns-then-k-eq3
-returns-then-k-eq3 c = (turn_3 _ _ c.if-k-eq3.true refl, omega arith)
+pub returns-in-3 : goal.returns-in-3
+returns-in-3 c = (turn_3 _ _ c.in-3.is refl, omega arith)
 
-pub returns : goal.returns
-returns c =
+pub returns-in_default : goal.returns-in_default
+returns-in_default c =
     let k = c.args.k in
-    (add-one k ∙ turn_other k c.if-k-eq2.false c.if-k-eq3.false, omega (arith, c.if-k-eq3.false))
+    (add-one k ∙ turn_other k (λ e. omega arith) (λ e. omega arith), omega arith)
