@@ -1,15 +1,12 @@
 -- A list of the program's slots: one of them, how many can be named, and how many count. Assumes nothing.
-use mathlib.Core.Path.{◌∙◌, ◌≡◌, ap, refl, subst, sym}
-use mathlib.Core.Bool.{Bool, cond, false, not, true}
-use mathlib.Core.List.{List, [], ◌∷◌}
-use Prim.Native.Nat.{◌+◌, ◌<◌, ◌≤◌, suc, zero, ℕ}
-use lib.Dec.{T, ltb, ltb→lt, nltb→le}
-use lib.ListN.{get_or-map, get_or, length, length-map, set}
-use native.Mathlib.Nat.{le_refl}
-use native.Mathlib.Omega.{arith}
+use Rattle.std.proofs.Common.{◌∙◌, ◌≡◌, ap, refl, subst, sym, ◌⊎◌, inl, inr, Bool, false, true, List, [], ◌∷◌, ◌+◌, ◌<◌, ◌≤◌, suc, zero, ℕ, get_or, length, set, take, arith, add-one}
+use Rattle.std.proofs.Math.Nat.{le_refl, min-eq_left, min-eq_right}
+use Rattle.std.proofs.lemmas.Bool.{cases_lt}
+use Rattle.std.proofs.lemmas.List.{get_or-take, length-take-le}
+use lib.ListN.{get_or-map, length-map}
 use Rattle.slots.specs.Slots as S
 use Rattle.slots.specs.Slots.{InTable, in_table, slot_at, slot_limit, unfinished, unfinished_of}
-use Rattle.slots.proofs.CountLaws.{unfinished_all, unfinished_next}
+use Rattle.slots.proofs.CountLaws.{unfinished_all, unfinished_next, unfinished_none}
 use Rattle.slots.proofs.FreeLaws.{decides_in_table}
 use Rattle.slot_steps.specs.Types.{slot_of}
 use Rattle.slot_steps.specs.declared.Slot.{Slot}
@@ -27,33 +24,33 @@ at_slot ys i = get_or-map slot_of ys i empty_slot
 
 -- the count of one slot more
 pub one_more : (ys : List Slot) (o k : ℕ)
-    → unfinished o (table_of ys) k + unfinished_of o (slot_of (get_or ys k empty_slot)) ≡ unfinished o (table_of ys) (k + 1)
-one_more ys o k =
-    ap (λ (x : S.Slot). unfinished o (table_of ys) k + unfinished_of o x) (sym (at_slot ys k)) ∙ sym (unfinished_next o (table_of ys) k)
+    → unfinished o (table_of ys) (k + 1) ≡ unfinished o (table_of ys) k + unfinished_of o (slot_of (get_or ys k empty_slot))
+one_more ys o k = unfinished_next o (table_of ys) k ∙ ap (λ (x : S.Slot). unfinished o (table_of ys) k + unfinished_of o x) (at_slot ys k)
+
+-- the first r slots count as they do in the whole list
+count_front : (ys : List Slot) (o r k : ℕ) → k ≤ r → unfinished o (table_of (take r ys)) k ≡ unfinished o (table_of ys) k
+count_front ys o r zero l = unfinished_none o (table_of (take r ys)) ∙ sym (unfinished_none o (table_of ys))
+count_front ys o r (suc k) l =
+    rw (← add-one k)
+    (one_more (take r ys) o k
+    ∙ ap (λ (n : ℕ). n + unfinished_of o (slot_of (get_or (take r ys) k empty_slot))) (count_front ys o r k (omega arith))
+    ∙ ap (λ (x : Slot). unfinished o (table_of ys) k + unfinished_of o (slot_of x)) (get_or-take r ys k empty_slot (omega arith))
+    ∙ sym (one_more ys o k))
+
+pub counted_front : (ys : List Slot) (o r : ℕ) → r ≤ length ys
+    → unfinished o (table_of (take r ys)) (length (take r ys)) ≡ unfinished o (table_of ys) r
+counted_front ys o r l = ap (unfinished o (table_of (take r ys))) (length-take-le r ys l) ∙ count_front ys o r r (le_refl r)
 
 -- ---- how many slots can be named
 
-cut : (b : Bool) (n : ℕ) → ltb n slot_limit ≡ b → (cond b n slot_limit ≤ n) × (cond b n slot_limit ≤ slot_limit)
-cut true n e = let l : n < slot_limit = ltb→lt n slot_limit (subst T (sym e) tt) in (le_refl n, omega (arith, l))
-cut false n e = let l : slot_limit ≤ n = nltb→le n slot_limit (subst (λ (b : Bool). T (not b)) (sym e) tt) in (l, le_refl slot_limit)
-
-pub within : (n : ℕ) → (slots_in n ≤ n) × (slots_in n ≤ slot_limit)
-unfolding slots_in
-within n = cut (ltb n slot_limit) n refl
-
 below : (ys : List Slot) (i : ℕ) → i < slots_in (length ys) → InTable (table_of ys) i
 below ys i l = (
-  subst (λ (n : ℕ). i < n) (sym (length-map ys slot_of)) (omega (arith, l, (within (length ys)).0)),
-  omega (arith, l, (within (length ys)).1),
+  subst (λ (n : ℕ). i < n) (sym (length-map ys slot_of)) (omega arith),
+  omega arith,
 )
 
-past : (b : Bool) (n i : ℕ) → ltb n slot_limit ≡ b → cond b n slot_limit ≤ i → i < n → i < slot_limit → ⊥
-past true n i e l x y = omega (arith, l, x)
-past false n i e l x y = omega (arith, l, y)
-
 pub beyond : (ys : List Slot) (i : ℕ) → slots_in (length ys) ≤ i → InTable (table_of ys) i → ⊥
-unfolding slots_in
-beyond ys i l (x, y) = past (ltb (length ys) slot_limit) (length ys) i refl l (subst (λ (n : ℕ). i < n) (length-map ys slot_of) x) y
+beyond ys i l (x, y) = let z : i < length ys = subst (λ (n : ℕ). i < n) (length-map ys slot_of) x in omega arith
 
 pub inside_true : (ys : List Slot) (i : ℕ) → i < slots_in (length ys) → in_table (table_of ys) i ≡ true
 inside_true ys i l = (decides_in_table (table_of ys) i).1 (below ys i l)
@@ -67,12 +64,10 @@ beyond_false ys i l = go (in_table (table_of ys) i) refl
 
 -- those that can be named are all that count
 pub all_counted : (ys : List Slot) (o : ℕ) → unfinished o (table_of ys) (slots_in (length ys)) ≡ unfinished o (table_of ys) slot_limit
-unfolding slots_in
-all_counted ys o = go (ltb (length ys) slot_limit) refl
+all_counted ys o = go (cases_lt (length ys) slot_limit)
   where
-    go : (b : Bool) → ltb (length ys) slot_limit ≡ b → unfinished o (table_of ys) (cond b (length ys) slot_limit) ≡ unfinished o (table_of ys) slot_limit
-    go true e =
-        let l : length ys < slot_limit = ltb→lt (length ys) slot_limit (subst T (sym e) tt) in
-        ap (unfinished o (table_of ys)) (sym (length-map ys slot_of))
-        ∙ sym (unfinished_all o (table_of ys) slot_limit (subst (λ (n : ℕ). n ≤ slot_limit) (sym (length-map ys slot_of)) (omega (arith, l))))
-    go false e = refl
+    go : (length ys < slot_limit) ⊎ (slot_limit ≤ length ys) → unfinished o (table_of ys) (slots_in (length ys)) ≡ unfinished o (table_of ys) slot_limit
+    go (inl l) =
+        ap (unfinished o (table_of ys)) (min-eq_left (omega arith) ∙ sym (length-map ys slot_of))
+        ∙ sym (unfinished_all o (table_of ys) slot_limit (subst (λ (n : ℕ). n ≤ slot_limit) (sym (length-map ys slot_of)) (omega arith)))
+    go (inr l) = ap (unfinished o (table_of ys)) (min-eq_right l)

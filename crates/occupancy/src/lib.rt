@@ -15,19 +15,18 @@ const SLOT_LIMIT: usize = 64;
 pub fn slots_in(n: usize) -> usize
     ensures { result ≡ slots_in n }
 {
-    if n < SLOT_LIMIT { n } else { SLOT_LIMIT }
+    n.min(SLOT_LIMIT)
 }
 
-// How many of the first slots hold an unfinished session of the owner's.
-pub fn owned(slots: &[Slot], reach: usize, owner: u8) -> u8
-    requires { (reach ≤ length slots.now) × (reach ≤ slot_limit) }
-    ensures { result ≡ unfinished owner (table_of slots.now) reach }
+// How many of these slots hold an unfinished session of the owner's.
+#[tactic(auto, using(crate::proofs::ListLaws::one_more, slots::proofs::CountLaws::unfinished_most, slots::proofs::CountLaws::unfinished_none))]
+pub fn owned(slots: &[Slot], owner: u8) -> u8
+    requires { length slots.now ≤ slot_limit }
+    ensures { result ≡ unfinished owner (table_of slots.now) (length slots.now) }
 {
-    let mut count: u8 = 0;
-    let mut k: usize = 0;
-    while k < reach {
-        count = tally(slots[k], owner, count);
-        k += 1;
+    let mut count = 0;
+    for slot in slots {
+        count = tally(*slot, owner, count);
     }
     count
 }

@@ -3,6 +3,7 @@ use mathlib.Core.Path.{◌∙◌, ◌≡◌, ap, refl, subst, sym}
 use mathlib.Core.Logic.{◌≢◌}
 use mathlib.Core.List.{List, [], ◌++◌, ◌∷◌, map}
 use Prim.Native.Nat.{ℕ}
+use Rattle.std.specs.Prelude.{Result}
 use Rattle.lists.specs.Lists.{Every}
 use Rattle.lists.specs.Runs.{last, run}
 use Rattle.slots.specs.Slots as S
@@ -13,8 +14,9 @@ use Rattle.previews.specs.Previews.{preview_at, session_at}
 use Rattle.previews.proofs.ActLaws.{after_next, stays}
 use Rattle.session.specs.Types.{move_of}
 use Rattle.session.specs.declared.Move.{Move}
+use Rattle.session.specs.declared.answer.Ending.{Ending}
 use Rattle.slot_steps.specs.declared.Slot.{Slot}
-use Rattle.slot_steps.specs.declared.answer.Answer.{Answer}
+use Rattle.slot_steps.specs.declared.refusal.Refusal.{Refusal}
 use Rattle.slot_steps.proofs.TypeLaws.{answer_one}
 use Rattle.slot_preview.specs.Types.{next_of, preview_of}
 use Rattle.slot_preview.specs.declared.Preview.{Preview}
@@ -93,7 +95,7 @@ elsewhere i (previewing_at bytes k m v ys ∷ cs) h = elsewhere i cs h
 
 pub round_after : (xs : List Slot) (bytes : List ℕ) (i : ℕ) (m : Move) (v : Preview) (ys : List Slot) → Kept xs (previewing_at bytes i m v ys)
     → (cs : List Call) → Calls ys cs → Every (λ c. named (operation_of c) ≢ i) (without_previews cs)
-    → (a : Answer) (zs : List Slot) → T.Kept (left_after ys cs) (playing_at bytes i m a zs)
+    → (a : Result Ending Refusal) (zs : List Slot) → T.Kept (left_after ys cs) (playing_at bytes i m a zs)
     → (a ≡ v.answer) × (next_of v.session ≡ session_at (table_of zs) i)
 unfolding preview_at
 round_after xs bytes i m v ys (e, d) cs h n a zs (p, q) = (

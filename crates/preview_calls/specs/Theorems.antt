@@ -1,12 +1,13 @@
 -- The theorems of lists of calls with previews among them. Assumes nothing.
-use Rattle.std.specs.Prelude.{◌≡◌, ◌≢◌, List, ◌++◌, ◌∷◌, map, ℕ}
+use Rattle.std.specs.Prelude.{◌≡◌, ◌≢◌, List, ◌++◌, ◌∷◌, map, Result, ℕ}
 use Rattle.lists.specs.Lists.{Every}
 use Rattle.operations.specs.Operations.{named}
 use Rattle.previews.specs.Previews.{preview_at, session_at}
 use Rattle.session.specs.Types.{move_of}
 use Rattle.session.specs.declared.Move.{Move}
+use Rattle.session.specs.declared.answer.Ending.{Ending}
 use Rattle.slot_steps.specs.declared.Slot.{Slot}
-use Rattle.slot_steps.specs.declared.answer.Answer.{Answer}
+use Rattle.slot_steps.specs.declared.refusal.Refusal.{Refusal}
 use Rattle.slot_preview.specs.Types.{next_of, preview_of}
 use Rattle.slot_preview.specs.declared.Preview.{Preview}
 use Rattle.occupancy.specs.Types.{table_of}
@@ -31,5 +32,5 @@ pub record Theorems : Type 0 where
   -- a round after a preview gives its answer, and leaves its session in the slot, whatever calls at other slots and previews come between
   pub round_after : (xs : List Slot) (bytes : List ℕ) (i : ℕ) (m : Move) (v : Preview) (ys : List Slot) → Kept xs (previewing_at bytes i m v ys)
       → (cs : List Call) → Calls ys cs → Every (λ c. named (operation_of c) ≢ i) (without_previews cs)
-      → (a : Answer) (zs : List Slot) → T.Kept (left_after ys cs) (playing_at bytes i m a zs)
+      → (a : Result Ending Refusal) (zs : List Slot) → T.Kept (left_after ys cs) (playing_at bytes i m a zs)
       → (a ≡ v.answer) × (next_of v.session ≡ session_at (table_of zs) i)

@@ -1,5 +1,5 @@
 -- A list of rounds as the callers of the program make it, in the program's own types (session's specs/Types says what they mean). Assumes nothing.
-use Rattle.std.specs.Prelude.{◌≡◌, ◌↔◌, List, [], ◌∷◌, map, ◌<◌, ◌^◌, ℕ}
+use Rattle.std.specs.Prelude.{◌≡◌, ◌↔◌, List, Ok, [], ◌∷◌, map, ◌<◌, ◌^◌, ℕ}
 use Rattle.encoding.specs.LittleEndian.{Bytes}
 use Rattle.lists.specs.Lists.{Every}
 use Rattle.lists.specs.Runs.{Turn}
@@ -10,7 +10,6 @@ use Rattle.rounds.specs.Rounds.{opening, round, rounds_of}
 use Rattle.demands.specs.Demand3.{Demand3}
 use Rattle.session.specs.Types.{move_of, opened_of, outcome_of, session_of}
 use Rattle.session.specs.declared.Move.{Move}
-use Rattle.session.specs.declared.Opened.TheVariants as opened
 use Rattle.session.specs.declared.Outcome.{Outcome}
 use Rattle.session.specs.declared.Session.{Session}
 
@@ -38,6 +37,6 @@ pub record CallsMean : Type 0 where
 -- each p of the list.
 abbrev pub ProgramMeetsDemand3 : Type 0
 ProgramMeetsDemand3 =
-    (bytes : List ℕ) → Bytes bytes → WellFormed bytes → (r : ℕ) (s : Session) → opened_of (opened.Fresh s) ≡ opening r
+    (bytes : List ℕ) → Bytes bytes → WellFormed bytes → (r : ℕ) (s : Session) → opened_of (Ok s) ≡ opening r
     → (cs : List (Turn Move Outcome)) → Every (λ c. c.takes.shows < 2 ^ 16) cs → Calls bytes s cs
     → Demand3 bytes r (session_of s) (moves_of cs) (map turn_of cs)

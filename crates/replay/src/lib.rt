@@ -9,7 +9,7 @@ ghost use Rattle.replay.specs.Replay.{Replays, begun, one_more, replayed};
 ghost use Rattle.replay.specs.Types.{replayed_of};
 
 use session::refusal::Refusal;
-use session::{Move, Opened, Outcome, Session};
+use session::{Move, Outcome, Session};
 
 // What a list of rounds comes to.
 #[derive(Clone, Copy)]
@@ -29,11 +29,8 @@ pub fn replay(policy: &[u8], request: u16, shown: &[u16]) -> Replayed
     ensures unchanged { (policy.now ≡ policy.now) × (shown.now ≡ shown.now) }
 {
     let mut state = start(request);
-    let mut k: usize = 0;
-    while k < shown.len() {
-        let shows = shown[k];
-        state = one_more(policy, state, Move { shows });
-        k += 1;
+    for shows in shown {
+        state = one_more(policy, state, Move { shows: *shows });
     }
     state
 }
@@ -42,10 +39,9 @@ pub fn replay(policy: &[u8], request: u16, shown: &[u16]) -> Replayed
 fn start(request: u16) -> Replayed
     ensures { replayed_of result ≡ begun (opening request) }
 {
-    let opened = Session::open(request);
-    match opened {
-        Opened::Fresh(session) => Replayed::Unplayed(session),
-        Opened::Refused(refusal) => Replayed::Unopened(refusal),
+    match Session::open(request) {
+        Ok(session) => Replayed::Unplayed(session),
+        Err(refusal) => Replayed::Unopened(refusal),
     }
 }
 
@@ -56,9 +52,6 @@ fn one_more(policy: &[u8], state: Replayed, taken: Move) -> Replayed
     match state {
         Replayed::Unopened(_) => state,
         Replayed::Unplayed(session) => Replayed::Played(session.round(policy, taken)),
-        Replayed::Played(before) => {
-            let session = before.session;
-            Replayed::Played(session.round(policy, taken))
-        }
+        Replayed::Played(before) => Replayed::Played(before.session.round(policy, taken)),
     }
 }

@@ -160,26 +160,22 @@ round_decided s x ph p = ap (outcome (s.count + 1)) p ∙ ap (λ (n : ℕ). outc
     outcome : ℕ → Phase → Outcome
     outcome n ph = record { answer = ends x.ended; session = record { request = s.request; shown = x.shown; declined = x.declined; count = n; phase = ph } }
 
--- ---- a round: the session's tests, and the policy's test first
+-- ---- a round: the policy's test first, and the session's tests
 
-pub round_passed : (pol : Policy) (s : Session) (m : Move) (o : Outcome) (x : Option Refusal) → x ≡ session_refusal s m → o ≡ respond x pol s m
-    → o ≡ respond (session_refusal s m) pol s m
-round_passed pol s m o x e is = is ∙ ap (λ (y : Option Refusal). respond y pol s m) e
-
-module _ (bytes : List ℕ) (s : Session) (m : Move) (o : Outcome) where
-  -- by what the policy's test answered
-  from_parts : (t : Option W.Refusal) → policy_refusal bytes ≡ t → o ≡ respond (or_else (map of_policy t) (session_refusal s m)) (policy_of bytes) s m
-      → o ≡ round bytes s m
+module _ (bytes : List ℕ) (s : Session) (m : Move) where
+  -- by what the tests answered
+  from_parts : (t : Option W.Refusal) (x : Option Refusal) → t ≡ policy_refusal bytes → x ≡ session_refusal s m
+      → respond (or_else (map of_policy t) x) (policy_of bytes) s m ≡ round bytes s m
   unfolding round
-  from_parts t e is =
-      is
-      ∙ ap (λ (y : Option W.Refusal). respond (or_else (map of_policy y) (session_refusal s m)) (policy_of bytes) s m) (sym e)
+  from_parts t x e f =
+      ap (λ (y : Option W.Refusal). respond (or_else (map of_policy y) x) (policy_of bytes) s m) e
+      ∙ ap (λ (y : Option Refusal). respond (or_else (map of_policy (policy_refusal bytes)) y) (policy_of bytes) s m) f
       ∙ ap (λ (y : Option Refusal). respond y (policy_of bytes) s m) (sym (refusal_parts bytes s m))
 
-  pub round_tested : policy_refusal bytes ≡ none → o ≡ respond (session_refusal s m) (policy_of bytes) s m → o ≡ round bytes s m
+  pub round_tested : (x : Option Refusal) → none ≡ policy_refusal bytes → x ≡ session_refusal s m → respond x (policy_of bytes) s m ≡ round bytes s m
   unfolding or_else
-  round_tested e is = from_parts none e is
+  round_tested x e f = from_parts none x e f
 
-  pub round_untested : (f : W.Refusal) → policy_refusal bytes ≡ some f → o ≡ turned_back s (of_policy f) → o ≡ round bytes s m
+  pub round_untested : (f : W.Refusal) → some f ≡ policy_refusal bytes → turned_back s (of_policy f) ≡ round bytes s m
   unfolding or_else
-  round_untested f e is = from_parts (some f) e is
+  round_untested f e = from_parts (some f) (session_refusal s m) e refl

@@ -1,11 +1,14 @@
 -- What the program's types mean is one-to-one: each map has a way back. Assumes nothing.
+use Rattle.std.specs.Prelude.{Result, Ok, Err}
 use mathlib.Core.Path.{◌∙◌, ◌≡◌, ap, refl}
 use mathlib.Core.Bool.{cond}
 use lib.Dec.{eqb}
 use Rattle.validation.specs.Unless.{Unless, given, withheld}
 use Rattle.atoms.proofs.MapLaws.{one_to_one}
 use Rattle.policy.proofs.TypeLaws as policy
-use Rattle.question.proofs.TheoremsProof.{question_back_lem, question_back}
+use Rattle.preference.specs.Question as Q
+use Rattle.question.specs.Types.{question_of}
+use Rattle.question.specs.declared.Question.{Question}
 use Rattle.rounds.specs.Endings as E
 use Rattle.rounds.specs.Moves as M
 use Rattle.rounds.specs.Refusals as R
@@ -13,16 +16,12 @@ use Rattle.rounds.specs.Rounds as O
 use Rattle.rounds.specs.Sessions as S
 use Rattle.session.specs.Types.{answer_of, ending_of, move_of, opened_of, outcome_of, phase_of, refusal_of, session_of, verdict_of}
 use Rattle.session.specs.declared.Move.{Move}
-use Rattle.session.specs.declared.Opened.{Opened}
-use Rattle.session.specs.declared.Opened.TheVariants as opened
 use Rattle.session.specs.declared.Outcome.{Outcome}
 use Rattle.session.specs.declared.Phase.{Phase}
 use Rattle.session.specs.declared.Phase.TheVariants.{Closed, Fresh, Waiting}
 use Rattle.session.specs.declared.Session.{Session}
 use Rattle.session.specs.declared.Verdict.{Verdict}
 use Rattle.session.specs.declared.Verdict.TheVariants.{Denied, Granted}
-use Rattle.session.specs.declared.answer.Answer.{Answer}
-use Rattle.session.specs.declared.answer.Answer.TheVariants.{Ends, Refused}
 use Rattle.session.specs.declared.answer.Ending.{Ending}
 use Rattle.session.specs.declared.answer.Ending.TheVariants.{Ask, Deny, Grant}
 use Rattle.session.specs.declared.refusal.Refusal.{Refusal}
@@ -38,6 +37,13 @@ refusal_back_lem (refusal.Policy f) = ap refusal.Policy (policy.refusal_back_lem
 refusal_back_lem refusal.Request = refl
 refusal_back_lem refusal.Unsound = refl
 refusal_back_lem refusal.Closed = refl
+
+question_back : Q.Question → Question
+question_back q = record { asks = q.asks }
+
+question_back_lem : (x : Question) → question_back (question_of x) ≡ x
+unfolding question_back
+question_back_lem x = refl
 
 verdict_back : S.Verdict → Verdict
 verdict_back S.granted = Granted
@@ -78,14 +84,14 @@ ending_back_lem Grant = refl
 ending_back_lem Deny = refl
 ending_back_lem (Ask q) = ap Ask (question_back_lem q)
 
-answer_back : O.Answer → Answer
-answer_back (O.ends e) = Ends (ending_back e)
-answer_back (O.refused f) = Refused (refusal_back f)
+answer_back : O.Answer → Result Ending Refusal
+answer_back (O.ends e) = Ok (ending_back e)
+answer_back (O.refused f) = Err (refusal_back f)
 
-answer_back_lem : (x : Answer) → answer_back (answer_of x) ≡ x
+answer_back_lem : (x : Result Ending Refusal) → answer_back (answer_of x) ≡ x
 unfolding answer_back
-answer_back_lem (Ends e) = ap Ends (ending_back_lem e)
-answer_back_lem (Refused f) = ap Refused (refusal_back_lem f)
+answer_back_lem (Ok e) = ap Ok (ending_back_lem e)
+answer_back_lem (Err f) = ap Err (refusal_back_lem f)
 
 pub outcome_back : O.Outcome → Outcome
 outcome_back o = record { answer = answer_back o.answer; session = session_back o.session }
@@ -93,17 +99,17 @@ outcome_back o = record { answer = answer_back o.answer; session = session_back 
 pub outcome_back_lem : (x : Outcome) → outcome_back (outcome_of x) ≡ x
 unfolding outcome_back
 outcome_back_lem x =
-    ap (λ (a : Answer). record { answer = a; session = session_back (session_of x.session) }) (answer_back_lem x.answer)
+    ap (λ (a : Result Ending Refusal). record { answer = a; session = session_back (session_of x.session) }) (answer_back_lem x.answer)
     ∙ ap (λ (s : Session). record { answer = x.answer; session = s }) (session_back_lem x.session)
 
-opened_back : Unless R.Refusal S.Session → Opened
-opened_back (given s) = opened.Fresh (session_back s)
-opened_back (withheld f) = opened.Refused (refusal_back f)
+opened_back : Unless R.Refusal S.Session → Result Session Refusal
+opened_back (given s) = Ok (session_back s)
+opened_back (withheld f) = Err (refusal_back f)
 
-opened_back_lem : (x : Opened) → opened_back (opened_of x) ≡ x
+opened_back_lem : (x : Result Session Refusal) → opened_back (opened_of x) ≡ x
 unfolding opened_back
-opened_back_lem (opened.Fresh s) = ap opened.Fresh (session_back_lem s)
-opened_back_lem (opened.Refused f) = ap opened.Refused (refusal_back_lem f)
+opened_back_lem (Ok s) = ap Ok (session_back_lem s)
+opened_back_lem (Err f) = ap Err (refusal_back_lem f)
 
 move_back : M.Move → Move
 move_back m = record { shows = m.shows }
@@ -121,5 +127,5 @@ session_one = one_to_one session_of session_back session_back_lem
 pub outcome_one : (x y : Outcome) → outcome_of x ≡ outcome_of y → x ≡ y
 outcome_one = one_to_one outcome_of outcome_back outcome_back_lem
 
-pub opened_one : (x y : Opened) → opened_of x ≡ opened_of y → x ≡ y
+pub opened_one : (x y : Result Session Refusal) → opened_of x ≡ opened_of y → x ≡ y
 opened_one = one_to_one opened_of opened_back opened_back_lem

@@ -8,10 +8,10 @@ ghost use Rattle.rounds.specs.Rounds.{decided, worked};
 ghost use Rattle.rounds.specs.Sessions.{Service};
 ghost use Rattle.session.specs.Types.{move_of, outcome_of, session_of, working_of};
 
-use crate::answer::{Answer, Ending};
-use crate::ending::{ending, phase_after, without};
-use crate::sound::question;
+use crate::answer::Ending;
+use crate::ending::{ending, phase_after};
 use crate::{Move, Outcome, Session};
+use question::members::without;
 
 // The sets as a round updates them, and how it ends.
 #[derive(Drop)]
@@ -21,11 +21,12 @@ pub(crate) struct Working {
     ended: Ending,
 }
 
-// A round of a session that the tests accept, under an accepted policy, whose access rules keep these levels.
-pub(crate) fn accepted_round<'a>(
+// A round of a session that the tests accept, under an accepted policy, whose access rules keep these levels. The two are no struct: as its ghost field
+// AcceptedWith is refused, since the check finds no proof that it has at most one value, and without it the struct says no more than the parameters.
+pub(crate) fn accepted_round(
     session: Session,
-    policy: &'a [u8],
-    levels: &'a [u8; 64],
+    policy: &[u8],
+    levels: &[u8; 64],
     taken: Move,
 ) -> Outcome
     requires { AcceptedWith policy.now levels.now × (session_refusal (session_of session) (move_of taken) ≡ none) }
@@ -36,12 +37,11 @@ pub(crate) fn accepted_round<'a>(
 }
 
 // What was asked and is not shown now is declined.
-fn worked<'a>(session: Session, policy: &'a [u8], levels: &'a [u8; 64], taken: Move) -> Working
+fn worked(session: Session, policy: &[u8], levels: &[u8; 64], taken: Move) -> Working
     requires { AcceptedWith policy.now levels.now × Service session.request }
     ensures { working_of result ≡ worked (policy_of policy.now) (session_of session) (move_of taken) }
 {
-    let phase = session.phase;
-    let asked = question(phase).asks;
+    let asked = session.phase.question().asks;
     let shows = taken.shows;
     let shown = session.shown | shows;
     let declined = session.declined | without(asked, shows);
@@ -62,7 +62,7 @@ fn decided(session: Session, working: Working) -> Outcome
     let count = session.count + 1;
     let phase = phase_after(ended);
     Outcome {
-        answer: Answer::Ends(ended),
+        answer: Ok(ended),
         session: Session {
             request: session.request,
             shown: working.shown,

@@ -11,8 +11,4 @@ pub enum Ending {
 }
 
 // A round ends, or is refused.
-#[derive(Clone, Copy)]
-pub enum Answer {
-    Ends(Ending),
-    Refused(Refusal),
-}
+pub type Answer = Result<Ending, Refusal>;

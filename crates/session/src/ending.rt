@@ -1,28 +1,28 @@
 // How an accepted round ends.
-ghost use Rattle.std.specs.Prelude.{◌≡◌, false};
-ghost use Rattle.atoms.specs.Sets.{difference};
+ghost use Rattle.std.specs.Prelude.{◌≡◌};
 ghost use Rattle.records.specs.Policies.{policy_of};
 ghost use Rattle.form.specs.WrittenForm.{WellFormed};
 ghost use Rattle.policy.specs.Types.{AcceptedWith};
-ghost use Rattle.question.specs.Types.{found_of};
-ghost use Rattle.rounds.specs.Endings.{conclude, ending, obtainable};
+ghost use Rattle.rounds.specs.Endings.{ending, obtainable};
 ghost use Rattle.rounds.specs.Rounds.{phase_after};
 ghost use Rattle.rounds.specs.Sessions.{Service};
 ghost use Rattle.session.specs.Types.{ending_of, phase_of};
 
 use crate::answer::Ending;
 use crate::{Phase, Verdict};
+use arrays::{LevelRules, RuleArrays};
 use atoms::AtomSet;
 use disclosure::disclosable_of;
 use evaluation::levels::unlocks;
 use layout::access_rules;
-use question::{Found, preferred};
+use question::members::without;
+use question::preferred;
 use weights::weight_table;
 
-// Under an accepted policy, whose access rules keep these levels, once these credentials are shown and declined.
-pub(crate) fn ending<'a>(
-    policy: &'a [u8],
-    levels: &'a [u8; 64],
+// Under an accepted policy, whose access rules keep these levels, once these credentials are shown and declined: grant, or the preferred question, or deny where there is none.
+pub(crate) fn ending(
+    policy: &[u8],
+    levels: &[u8; 64],
     request: u16,
     shown: u16,
     declined: u16,
@@ -30,30 +30,22 @@ pub(crate) fn ending<'a>(
     requires { AcceptedWith policy.now levels.now × Service request }
     ensures { ending_of result ≡ ending (policy_of policy.now) request shown declined }
 {
-    let mut heads = [1u64; 128];
-    let mut positive = [0u64; 128];
-    let mut negated = [0u64; 128];
-    let starts = access_rules(policy, levels, &mut heads, &mut positive, &mut negated);
+    let mut laid = RuleArrays::EMPTY;
+    let starts = access_rules(policy, levels, &mut laid);
+    let rules = LevelRules {
+        rules: laid,
+        starts,
+    };
     let service = request as u8;
     let credentials = AtomSet::credentials(shown);
-    if unlocks(&heads, &positive, &negated, &starts, service, credentials) {
+    if unlocks(&rules, service, credentials) {
         return Ending::Grant;
     }
     let within = obtainable(policy, shown, declined);
     let weights = weight_table(policy);
-    let found = preferred(
-        &heads, &positive, &negated, &starts, service, shown, within, &weights,
-    );
-    concluded(found)
-}
-
-// The preferred question is asked; where there is none, deny.
-fn concluded(found: Found) -> Ending
-    ensures { ending_of result ≡ conclude false (found_of found) }
-{
-    match found {
-        Found::Preferred(question) => Ending::Ask(question),
-        Found::Nothing => Ending::Deny,
+    match preferred(&rules, service, shown, within, &weights) {
+        Some(question) => Ending::Ask(question),
+        None => Ending::Deny,
     }
 }
 
@@ -64,13 +56,6 @@ fn obtainable(policy: &[u8], shown: u16, declined: u16) -> u16
 {
     let disclosed = disclosable_of(policy, shown);
     without(without(disclosed, shown), declined)
-}
-
-// The credentials of a set that are not in another.
-pub(crate) fn without(set: u16, other: u16) -> u16
-    ensures { result ≡ difference set other }
-{
-    set - (set & other)
 }
 
 // Closed with a verdict, or waiting on the question.

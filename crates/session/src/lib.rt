@@ -2,20 +2,19 @@
 #![tactic(auto)]
 
 ghost use Rattle.std.specs.Prelude.{◌≡◌};
-ghost use Rattle.records.specs.Policies.{policy_of};
-ghost use Rattle.policy.specs.Types.{AcceptedWith};
-ghost use Rattle.rounds.specs.RoundTest.{session_refusal};
-ghost use Rattle.rounds.specs.Rounds.{opening, respond, round, turned_back};
+ghost use Rattle.rounds.specs.Rounds.{opening, round};
+ghost use Rattle.rounds.specs.Sessions.{is_closed, question};
+ghost use Rattle.question.specs.Types.{question_of};
 ghost use Rattle.demands.specs.Promises.{OpeningMeets, RoundMeets};
-ghost use Rattle.session.specs.Types.{move_of, opened_of, outcome_of, refusal_of, session_of};
+ghost use Rattle.session.specs.Types.{move_of, opened_of, outcome_of, outcome_or, phase_of, session_of};
 
 use accepted::accepted_round;
 use answer::Answer;
-use policy::{Checked, examine};
+use policy::examine;
 use question::Question;
 use refusal::Refusal;
 use sound::is_service;
-use tests::{Admission, test};
+use tests::test;
 
 mod accepted;
 pub mod answer;
@@ -38,6 +37,25 @@ pub enum Phase {
     Fresh,
     Waiting(Question),
     Closed(Verdict),
+}
+
+impl Phase {
+    // The session has ended.
+    pub fn is_closed(self) -> bool
+        ensures { result ≡ is_closed (phase_of self) }
+    {
+        matches!(self, Phase::Closed(_))
+    }
+
+    // What is asked: nothing unless waiting.
+    pub(crate) fn question(self) -> Question
+        ensures { question_of result ≡ question (phase_of self) }
+    {
+        match self {
+            Phase::Waiting(question) => question,
+            _ => Question { asks: 0 },
+        }
+    }
 }
 
 // A member's request, what was shown and declined so far, and how many rounds there were.
@@ -63,23 +81,16 @@ pub struct Outcome {
     pub session: Session,
 }
 
-// A fresh session, or the refusal and no session.
-#[derive(Clone, Copy)]
-pub enum Opened {
-    Fresh(Session),
-    Refused(Refusal),
-}
-
 impl Session {
-    // A fresh session for a request.
-    pub fn open(request: u16) -> Opened
+    // A fresh session for a request, or the refusal and no session.
+    pub fn open(request: u16) -> Result<Session, Refusal>
         ensures answer { opened_of result ≡ opening request }
         ensures meaning { OpeningMeets request (opened_of result) }
     {
         if !is_service(request) {
-            return Opened::Refused(Refusal::Request);
+            return Err(Refusal::Request);
         }
-        Opened::Fresh(Session {
+        Ok(Session {
             request,
             shown: 0,
             declined: 0,
@@ -94,39 +105,22 @@ impl Session {
         ensures meaning { RoundMeets policy.now (session_of self) (move_of taken) (outcome_of result) }
         ensures unchanged { policy.now ≡ policy.now }
     {
-        let examined = examine(policy);
-        let levels = examined.levels;
-        let checked = examined.checked;
-        let Checked::Refused(refusal) = checked else {
-            return tested_round(self, policy, &levels, taken);
-        };
-        refused(self, Refusal::Policy(refusal))
+        match next(self, policy, taken) {
+            Ok(outcome) => outcome,
+            Err(refusal) => Outcome {
+                answer: Err(refusal),
+                session: self,
+            },
+        }
     }
 }
 
-// A round under an accepted policy, whose access rules keep these levels: refused by the session, or worked out.
-fn tested_round<'a>(
-    session: Session,
-    policy: &'a [u8],
-    levels: &'a [u8; 64],
-    taken: Move,
-) -> Outcome
-    requires { AcceptedWith policy.now levels.now }
-    ensures { outcome_of result ≡ respond (session_refusal (session_of session) (move_of taken)) (policy_of policy.now) (session_of session) (move_of taken) }
+// The outcome of a round, or the refusal by the policy's test, or else by the session's.
+#[tactic(auto, using(crate::proofs::ProgramLaws::round_tested, crate::proofs::ProgramLaws::round_untested))]
+fn next(session: Session, policy: &[u8], taken: Move) -> Result<Outcome, Refusal>
+    ensures { outcome_or (session_of session) result ≡ round policy.now (session_of session) (move_of taken) }
 {
-    let tested = test(session, taken);
-    let Admission::Refused(refusal) = tested else {
-        return accepted_round(session, policy, levels, taken);
-    };
-    refused(session, refusal)
-}
-
-// The refusal, and the session as it came.
-fn refused(session: Session, refusal: Refusal) -> Outcome
-    ensures { outcome_of result ≡ turned_back (session_of session) (refusal_of refusal) }
-{
-    Outcome {
-        answer: Answer::Refused(refusal),
-        session,
-    }
+    let levels = examine(policy)?;
+    test(session, taken)?;
+    Ok(accepted_round(session, policy, &levels, taken))
 }

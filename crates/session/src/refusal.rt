@@ -2,6 +2,7 @@
 ghost use Rattle.std.specs.Prelude.{◌≡◌};
 ghost use Rattle.rounds.specs.Refusals.{refusal_number};
 ghost use Rattle.session.specs.Types.{refusal_of};
+ghost use Rattle.session.specs.declared.refusal.Refusal.TheVariants.{Policy};
 
 // Why an opening or a round is refused.
 #[derive(Clone, Copy)]
@@ -14,6 +15,14 @@ pub enum Refusal {
     Unsound,
     // A round in a sound closed session.
     Closed,
+}
+
+impl From<policy::refusal::Refusal> for Refusal {
+    ghost from_gives = { λ of_policy result. result ≡ Policy of_policy };
+
+    fn from(of_policy: policy::refusal::Refusal) -> Refusal {
+        Refusal::Policy(of_policy)
+    }
 }
 
 impl Refusal {

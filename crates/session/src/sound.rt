@@ -1,7 +1,7 @@
 // Which sessions are sound.
 ghost use Rattle.std.specs.Prelude.{◌≡◌};
 ghost use Rattle.question.specs.Types.{question_of};
-ghost use Rattle.rounds.specs.Sessions.{count_test, fresh, is_closed, is_service, is_sound, phase_test, question, question_test, waiting};
+ghost use Rattle.rounds.specs.Sessions.{count_test, fresh, is_service, is_sound, phase_test, question_test, waiting};
 ghost use Rattle.session.specs.Types.{phase_of, session_of};
 
 use crate::{Phase, Session};
@@ -12,7 +12,7 @@ use question::Question;
 pub(crate) fn is_service(request: u16) -> bool
     ensures { result ≡ is_service request }
 {
-    FIRST_DERIVED as u16 <= request && request <= LAST_DERIVED as u16
+    u16::from(FIRST_DERIVED) <= request && request <= u16::from(LAST_DERIVED)
 }
 
 // What opening and rounds give is sound; anything else may be handed in.
@@ -26,8 +26,7 @@ pub(crate) fn is_sound(session: Session) -> bool
 fn phase_fits(session: Session) -> bool
     ensures { result ≡ phase_test (session_of session) (phase_of session.phase) }
 {
-    let phase = session.phase;
-    match phase {
+    match session.phase {
         Phase::Fresh => is_untouched(session),
         Phase::Waiting(question) => waiting_fits(session, question),
         Phase::Closed(_) => count_fits(session),
@@ -38,13 +37,7 @@ fn phase_fits(session: Session) -> bool
 fn is_untouched(session: Session) -> bool
     ensures { result ≡ phase_test (session_of session) fresh }
 {
-    if session.shown != 0 {
-        return false;
-    }
-    if session.declined != 0 {
-        return false;
-    }
-    session.count == 0
+    session.shown == 0 && session.declined == 0 && session.count == 0
 }
 
 // The question, and the count.
@@ -68,27 +61,5 @@ fn count_fits(session: Session) -> bool
 {
     let met = AtomSet::credentials(session.shown | session.declined);
     let most = 1 + met.count();
-    1 <= session.count && session.count as u32 <= most
-}
-
-// The session has ended.
-pub(crate) fn is_closed(phase: Phase) -> bool
-    ensures { result ≡ is_closed (phase_of phase) }
-{
-    match phase {
-        Phase::Fresh => false,
-        Phase::Waiting(_) => false,
-        Phase::Closed(_) => true,
-    }
-}
-
-// What is asked: nothing unless waiting.
-pub(crate) fn question(phase: Phase) -> Question
-    ensures { question_of result ≡ question (phase_of phase) }
-{
-    match phase {
-        Phase::Fresh => Question { asks: 0 },
-        Phase::Waiting(question) => question,
-        Phase::Closed(_) => Question { asks: 0 },
-    }
+    1 <= session.count && u32::from(session.count) <= most
 }

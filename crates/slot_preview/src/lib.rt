@@ -11,22 +11,15 @@ ghost use Rattle.slot_steps.specs.Types.{Typed, slot_of};
 ghost use Rattle.slot_preview.specs.Types.{next_of, preview_of};
 
 use session::{Move, Session};
+use slot_steps::Slot;
 use slot_steps::answer::Answer;
 use slot_steps::round::{round_past, slot_round};
-use slot_steps::{Holding, Slot};
 
-// The session after a round, or none where the slot is empty or there is no slot.
-#[derive(Clone, Copy)]
-pub enum Next {
-    Session(Session),
-    Nothing,
-}
-
-// What a preview gives.
+// What a preview gives: the answer, and the session after the round, or none where the slot is empty or there is no slot.
 #[derive(Clone, Copy)]
 pub struct Preview {
     pub answer: Answer,
-    pub session: Next,
+    pub session: Option<Session>,
 }
 
 // At a slot of the list.
@@ -35,23 +28,17 @@ pub fn slot_preview(slot: Slot, policy: &[u8], taken: Move) -> Preview
     ensures unchanged { policy.now ≡ policy.now }
 {
     let turn = slot_round(slot, policy, taken);
-    let answer = turn.answer;
-    let after = turn.slot;
     Preview {
-        answer,
-        session: session_of(after),
+        answer: turn.answer,
+        session: session_of(turn.slot),
     }
 }
 
 // The session that a slot holds.
-fn session_of(slot: Slot) -> Next
+fn session_of(slot: Slot) -> Option<Session>
     ensures { next_of result ≡ session_held (slot_of slot) }
 {
-    let holding = slot.holding;
-    match holding {
-        Holding::Empty => Next::Nothing,
-        Holding::Held(_, session) => Next::Session(session),
-    }
+    slot.holding.map(|held| held.session)
 }
 
 // Where no slot has the number.
@@ -61,6 +48,6 @@ pub fn preview_past(policy: &[u8]) -> Preview
 {
     Preview {
         answer: round_past(policy),
-        session: Next::Nothing,
+        session: None,
     }
 }

@@ -54,22 +54,22 @@ module _ (x : Slot) (n o : ℕ) (s : Session) where
   unfolding take_slot taken
   tested a b e f = ap (λ (y : Bool). taken y b x o s) (sym e) ∙ ap (λ (y : Bool). taken (is_free x) y x o s) (sym f)
 
-  pub takes_15 : (t : SlotOpening) → is_free x ≡ false → t ≡ take_unless (some (number 15)) x vacant → t ≡ take_slot x n o s
+  pub takes_15 : is_free x ≡ false → ◌≡◌ {A = SlotOpening} (record { answer = some (number 15); slot = x }) (take_slot x n o s)
   unfolding taken first_failed
-  takes_15 t e f = f ∙ tested false (ltb n most_unfinished) e refl
+  takes_15 e = tested false (ltb n most_unfinished) e refl
 
-  pub takes_16 : (t : SlotOpening) → is_free x ≡ true → most_unfinished ≤ n → t ≡ take_unless (some (number 16)) x vacant → t ≡ take_slot x n o s
+  pub takes_16 : is_free x ≡ true → most_unfinished ≤ n → ◌≡◌ {A = SlotOpening} (record { answer = some (number 16); slot = x }) (take_slot x n o s)
   unfolding taken first_failed
-  takes_16 t e l f = f ∙ tested true false e (le-ltb n most_unfinished l)
+  takes_16 e l = tested true false e (le-ltb n most_unfinished l)
 
   pub takes : is_free x ≡ true → n < most_unfinished → ◌≡◌ {A = SlotOpening} (record { answer = none; slot = held o s }) (take_slot x n o s)
   unfolding taken first_failed
   takes e l = tested true true e (lt-ltb n most_unfinished l)
 
 -- once the opening of a session has come out as p
-pub opens_with_lem : (x : Slot) (n o r : ℕ) (p : Unless Refusal Session) (t : SlotOpening) → p ≡ opening r → t ≡ open_with p x n o → t ≡ open_slot x n o r
+pub opens_with_lem : (x : Slot) (n o r : ℕ) (p : Unless Refusal Session) → p ≡ opening r → open_with p x n o ≡ open_slot x n o r
 unfolding open_slot
-opens_with_lem x n o r p t e f = f ∙ ap (λ (y : Unless Refusal Session). open_with y x n o) e
+opens_with_lem x n o r p e = ap (λ (y : Unless Refusal Session). open_with y x n o) e
 
 pub past_with_lem : (r : ℕ) (p : Unless Refusal Session) → p ≡ opening r → past_with p ≡ past_refusal r
 unfolding past_refusal

@@ -1,36 +1,33 @@
 -- What the program's slots and answers mean is one-to-one: each map has a way back. Assumes nothing.
+use Rattle.std.specs.Prelude.{Err, None, Ok, Option, Result, Some, ⊤}
 use mathlib.Core.Path.{◌≡◌, ap, refl}
 use mathlib.Core.Bool.{cond}
-use mathlib.Core.Option.{Option, none, some}
+use mathlib.Core.Option as Math
 use lib.Dec.{eqb}
 use Rattle.atoms.proofs.MapLaws.{one_to_one}
 use Rattle.rounds.specs.Refusals as R
 use Rattle.rounds.specs.Rounds as O
 use Rattle.slots.specs.Slots as S
+use Rattle.session.specs.declared.answer.Ending.{Ending}
 use Rattle.session.specs.declared.refusal.Refusal.TheVariants as session-refusal
 use Rattle.session.proofs.TypeLaws as session
 use Rattle.slot_steps.specs.Types.{answer_of, opens_of, refusal_of, slot_of}
 use Rattle.slot_steps.specs.declared.Holding.{Holding}
-use Rattle.slot_steps.specs.declared.Holding.TheVariants.{Empty, Held}
 use Rattle.slot_steps.specs.declared.Slot.{Slot}
-use Rattle.slot_steps.specs.declared.answer.Answer.{Answer}
-use Rattle.slot_steps.specs.declared.answer.Answer.TheVariants as answer
-use Rattle.slot_steps.specs.declared.opening.Opens.{Opens}
-use Rattle.slot_steps.specs.declared.opening.Opens.TheVariants as opens
 use Rattle.slot_steps.specs.declared.refusal.Refusal.{Refusal}
 use Rattle.slot_steps.specs.declared.refusal.Refusal.TheVariants as refusal
 
 slot_back : S.Slot → Slot
-slot_back S.vacant = record { holding = Empty }
-slot_back (S.held o s) = record { holding = Held o (session.session_back s) }
+slot_back S.vacant = record { holding = None }
+slot_back (S.held o s) = record { holding = Some (record { owner = o; session = session.session_back s }) }
 
 slot_back_lem : (x : Slot) → slot_back (slot_of x) ≡ x
 unfolding slot_back
 slot_back_lem x = go x.holding
   where
-    go : (h : Holding) → slot_back (slot_of (record { holding = h })) ≡ record { holding = h }
-    go Empty = refl
-    go (Held o s) = ap (λ t. record { holding = Held o t }) (session.session_back_lem s)
+    go : (h : Option Holding) → slot_back (slot_of (record { holding = h })) ≡ record { holding = h }
+    go None = refl
+    go (Some h) = ap (λ t. record { holding = Some (record { owner = h.owner; session = t }) }) (session.session_back_lem h.session)
 
 refusal_back : R.Refusal → Refusal
 refusal_back (R.of_policy f) = refusal.Session (session.refusal_back (R.of_policy f))
@@ -48,29 +45,29 @@ refusal_back_lem refusal.NoSlot = refl
 refusal_back_lem refusal.Unfinished = refl
 refusal_back_lem refusal.Full = refl
 
-answer_back : O.Answer → Answer
-answer_back (O.ends e) = answer.Ends (session.ending_back e)
-answer_back (O.refused f) = answer.Refused (refusal_back f)
+answer_back : O.Answer → Result Ending Refusal
+answer_back (O.ends e) = Ok (session.ending_back e)
+answer_back (O.refused f) = Err (refusal_back f)
 
-answer_back_lem : (x : Answer) → answer_back (answer_of x) ≡ x
+answer_back_lem : (x : Result Ending Refusal) → answer_back (answer_of x) ≡ x
 unfolding answer_back
-answer_back_lem (answer.Ends e) = ap answer.Ends (session.ending_back_lem e)
-answer_back_lem (answer.Refused f) = ap answer.Refused (refusal_back_lem f)
+answer_back_lem (Ok e) = ap Ok (session.ending_back_lem e)
+answer_back_lem (Err f) = ap Err (refusal_back_lem f)
 
-opens_back : Option R.Refusal → Opens
-opens_back none = opens.Begun
-opens_back (some f) = opens.Refused (refusal_back f)
+opens_back : Math.Option R.Refusal → Result ⊤ Refusal
+opens_back Math.none = Ok tt
+opens_back (Math.some f) = Err (refusal_back f)
 
-opens_back_lem : (x : Opens) → opens_back (opens_of x) ≡ x
+opens_back_lem : (x : Result ⊤ Refusal) → opens_back (opens_of x) ≡ x
 unfolding opens_back
-opens_back_lem opens.Begun = refl
-opens_back_lem (opens.Refused f) = ap opens.Refused (refusal_back_lem f)
+opens_back_lem (Ok x) = refl
+opens_back_lem (Err f) = ap Err (refusal_back_lem f)
 
 pub slot_one : (x y : Slot) → slot_of x ≡ slot_of y → x ≡ y
 slot_one = one_to_one slot_of slot_back slot_back_lem
 
-pub answer_one : (x y : Answer) → answer_of x ≡ answer_of y → x ≡ y
+pub answer_one : (x y : Result Ending Refusal) → answer_of x ≡ answer_of y → x ≡ y
 answer_one = one_to_one answer_of answer_back answer_back_lem
 
-pub opens_one : (x y : Opens) → opens_of x ≡ opens_of y → x ≡ y
+pub opens_one : (x y : Result ⊤ Refusal) → opens_of x ≡ opens_of y → x ≡ y
 opens_one = one_to_one opens_of opens_back opens_back_lem

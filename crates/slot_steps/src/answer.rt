@@ -3,8 +3,4 @@ use crate::refusal::Refusal;
 use session::answer::Ending;
 
 // A round ends, or is refused.
-#[derive(Clone, Copy)]
-pub enum Answer {
-    Ends(Ending),
-    Refused(Refusal),
-}
+pub type Answer = Result<Ending, Refusal>;

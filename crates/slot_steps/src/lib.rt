@@ -9,14 +9,15 @@ pub mod opening;
 pub mod refusal;
 pub mod round;
 
-// What a slot holds: nothing, or an owner and a session.
+// A session and its owner.
 #[derive(Clone, Copy)]
-pub enum Holding {
-    Empty,
-    Held(u8, Session),
+pub struct Holding {
+    pub owner: u8,
+    pub session: Session,
 }
 
+// Empty, or held.
 #[derive(Clone, Copy)]
 pub struct Slot {
-    pub holding: Holding,
+    pub holding: Option<Holding>,
 }

@@ -1,7 +1,9 @@
 // Refusals of an opening and of a round at a slot, and the papers' numbers for them.
 ghost use Rattle.std.specs.Prelude.{◌≡◌};
 ghost use Rattle.rounds.specs.Refusals.{refusal_number};
+ghost use Rattle.session.specs.declared.refusal.Refusal.TheVariants.{Policy};
 ghost use Rattle.slot_steps.specs.Types.{refusal_of};
+ghost use Rattle.slot_steps.specs.declared.refusal.Refusal.TheVariants.{Session};
 
 // Why an opening or a round at a slot is refused.
 #[derive(Clone, Copy)]
@@ -14,6 +16,22 @@ pub enum Refusal {
     Unfinished,
     // The owner has four unfinished sessions or more.
     Full,
+}
+
+impl From<session::refusal::Refusal> for Refusal {
+    ghost from_gives = { λ of_session result. result ≡ Session of_session };
+
+    fn from(of_session: session::refusal::Refusal) -> Refusal {
+        Refusal::Session(of_session)
+    }
+}
+
+impl From<policy::refusal::Refusal> for Refusal {
+    ghost from_gives = { λ of_policy result. result ≡ Session (Policy of_policy) };
+
+    fn from(of_policy: policy::refusal::Refusal) -> Refusal {
+        Refusal::Session(of_policy.into())
+    }
 }
 
 impl Refusal {

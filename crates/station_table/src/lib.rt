@@ -15,25 +15,18 @@ ghost use Rattle.station_table.specs.Types.{count_at, empty_table, opening_of, r
 use preview::preview_at;
 use session::Move;
 use slot_preview::Preview;
+use slot_steps::Slot;
 use slot_steps::answer::Answer;
-use slot_steps::opening::Opens;
-use slot_steps::{Holding, Slot};
+use slot_steps::refusal::Refusal;
 use table::{open_at, round_at};
 
 // As many slots as can be named.
 pub const SLOTS: usize = 64;
 
-// What an opening answers, and the slots after it.
+// What an opening or a round answers, and the slots after it.
 #[derive(Clone, Copy)]
-pub struct AfterOpening {
-    pub answer: Opens,
-    pub slots: [Slot; SLOTS],
-}
-
-// What a round answers, and the slots after it.
-#[derive(Clone, Copy)]
-pub struct AfterRound {
-    pub answer: Answer,
+pub struct After<A> {
+    pub answer: A,
     pub slots: [Slot; SLOTS],
 }
 
@@ -41,9 +34,7 @@ pub struct AfterRound {
 pub fn empty() -> [Slot; SLOTS]
     ensures { table_of result ≡ empty_table }
 {
-    [Slot {
-        holding: Holding::Empty,
-    }; SLOTS]
+    [Slot { holding: None }; SLOTS]
 }
 
 // The count of the session at a slot, 0 where there is none.
@@ -61,32 +52,33 @@ pub fn count_at(slots: [Slot; SLOTS], slot: usize) -> u8
 fn count_of(slot: Slot) -> u8
     ensures { result ≡ (session_in (slot_of slot)).count }
 {
-    let holding = slot.holding;
-    match holding {
-        Holding::Empty => 0,
-        Holding::Held(_, session) => session.count,
-    }
+    slot.holding.map_or(0, |held| held.session.count)
 }
 
 // An opening at a slot for an owner.
-pub fn open_in(slots: [Slot; SLOTS], slot: usize, owner: u8, request: u16) -> AfterOpening
+pub fn open_in(
+    slots: [Slot; SLOTS],
+    slot: usize,
+    owner: u8,
+    request: u16,
+) -> After<Result<(), Refusal>>
     ensures { opening_of result ≡ open_at (table_of slots) slot owner request }
 {
     let mut lent = slots;
     let answer = open_at(&mut lent, slot, owner, request);
-    AfterOpening {
+    After {
         answer,
         slots: lent,
     }
 }
 
 // A round of the session at a slot.
-pub fn round_in(slots: [Slot; SLOTS], policy: &[u8], slot: usize, taken: Move) -> AfterRound
+pub fn round_in(slots: [Slot; SLOTS], policy: &[u8], slot: usize, taken: Move) -> After<Answer>
     ensures { round_of result ≡ round_at policy.now (table_of slots) slot (move_of taken) }
 {
     let mut lent = slots;
     let answer = round_at(&mut lent, policy, slot, taken);
-    AfterRound {
+    After {
         answer,
         slots: lent,
     }

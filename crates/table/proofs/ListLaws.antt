@@ -5,7 +5,7 @@ use mathlib.Core.List.{List, [], ◌∷◌}
 use mathlib.Core.Option.{Option, none, some}
 use Prim.Native.Nat.{◌<◌, ◌^◌, ◌≤◌, ℕ}
 use lib.Dec.{ltb}
-use lib.ListN.{get_or, length, set}
+use lib.ListN.{get_or, length, set, take}
 use lib.Seq.{set-get_or}
 use native.Mathlib.Omega.{arith}
 use Rattle.encoding.specs.LittleEndian.{Bytes}
@@ -28,13 +28,7 @@ use Rattle.slot_steps.specs.Steps.{SlotOpening, open_slot, open_with, past_refus
 use Rattle.slot_steps.specs.Types.{Typed, slot_of}
 use Rattle.slot_steps.specs.declared.Slot.{Slot}
 use Rattle.occupancy.specs.Types.{empty_slot, slots_in, table_of}
-use Rattle.occupancy.proofs.ListLaws.{all_counted, at_slot, beyond, beyond_false, inside_true, map_set, within}
-
--- a number below those that can be named is a slot's, and one of 64
-pub named : (n r i : ℕ) → r ≡ slots_in n → i < r → (i < n) × (i < 64)
-named n r i e l =
-    let w = within n in
-    (omega (arith, w.0), omega (arith, w.1))
+use Rattle.occupancy.proofs.ListLaws.{all_counted, at_slot, beyond, beyond_false, counted_front, inside_true, map_set}
 
 -- ---- a round
 
@@ -114,6 +108,11 @@ module _ (xs : List S.Slot) (i o r : ℕ) where
       go true = refl
       go false = refl
 
+-- what was counted over the slots that can be named
+pub counted : (ys : List Slot) (o r n : ℕ) → r ≡ slots_in (length ys) → n ≡ unfinished o (table_of (take r ys)) (length (take r ys))
+    → n ≡ unfinished o (table_of ys) (slots_in (length ys))
+counted ys o r n e is = is ∙ counted_front ys o r (omega arith) ∙ ap (unfinished o (table_of ys)) e
+
 module _ (ys : List Slot) (i o r : ℕ) where
   abbrev pub Opens : Option Refusal → List Slot → Type 0
   Opens a zs =
@@ -142,6 +141,13 @@ module _ (ys : List Slot) (i o r : ℕ) where
           ∙ ap (λ (y : S.Slot). put (table_of ys) i o r (open_slot y (unfinished o (table_of ys) (slots_in (length ys))) o r)) (sym (at_slot ys i))
           ∙ ap (λ (k : ℕ). put (table_of ys) i o r (open_slot (slot_at (table_of ys) i) k o r)) (all_counted ys o)
           ∙ opens_in (table_of ys) i o r (inside_true ys i l)
+
+  -- the slot stays as it was
+  pub open_refused : (f : Refusal) → i < slots_in (length ys)
+      → ◌≡◌ {A = SlotOpening} (record { answer = some f; slot = slot_of (get_or ys i empty_slot) })
+      (open_slot (slot_of (get_or ys i empty_slot)) (unfinished o (table_of ys) (slots_in (length ys))) o r)
+      → Opens (some f) ys
+  open_refused f l e = subst (Opens (some f)) (set-get_or ys i empty_slot) (open_inside (some f) (get_or ys i empty_slot) l e)
 
   pub open_beyond : (a : Option Refusal) → slots_in (length ys) ≤ i → a ≡ past_refusal r → Opens a ys
   open_beyond a l e =

@@ -13,21 +13,21 @@ use occupancy::{owned, slots_in};
 use session::Move;
 use slot_steps::Slot;
 use slot_steps::answer::Answer;
-use slot_steps::opening::{Opens, open_past, slot_open};
+use slot_steps::opening::{open_past, slot_open};
+use slot_steps::refusal::Refusal;
 use slot_steps::round::{round_past, slot_round};
 
 // An opening at a slot for an owner. The slots past the 64th are not read.
-pub fn open_at(slots: &mut [Slot], slot: usize, owner: u8, request: u16) -> Opens
+pub fn open_at(slots: &mut [Slot], slot: usize, owner: u8, request: u16) -> Result<(), Refusal>
     ensures answer { opens_of result ≡ (open_at (table_of slots.old) slot owner request).answer }
     ensures table { table_of slots.new ≡ (open_at (table_of slots.old) slot owner request).table }
     ensures meaning { OpeningAtMeets (table_of slots.old) slot owner request (record { answer = opens_of result; table = table_of slots.new }) }
 {
     let reach = slots_in(slots.len());
     if slot < reach {
-        let count = owned(slots, reach, owner);
-        let opening = slot_open(slots[slot], count, owner, request);
-        slots[slot] = opening.slot;
-        opening.answer
+        let count = owned(&slots[..reach], owner);
+        slots[slot] = slot_open(slots[slot], count, owner, request)?;
+        Ok(())
     } else {
         open_past(request)
     }

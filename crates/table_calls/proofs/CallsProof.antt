@@ -3,6 +3,7 @@ use mathlib.Core.Path.{◌∙◌, ◌≡◌, ap, refl, subst, sym}
 use mathlib.Core.Logic.{◌↔◌}
 use mathlib.Core.List.{List, ◌++◌, ◌∷◌, map}
 use mathlib.Core.Option.{Option}
+use Rattle.std.specs.Prelude.{Ok}
 use Rattle.lists.specs.Lists.{Every}
 use Rattle.lists.specs.Runs.{run}
 use Rattle.lists.proofs.ListLaws.{every_imp, every_map, every_unmap, map_append}
@@ -19,7 +20,6 @@ use Rattle.operations.proofs.TheoremsProof as operations
 use Rattle.session.specs.Types.{move_of}
 use Rattle.slot_steps.specs.Types.{answer_of, opens_of}
 use Rattle.slot_steps.specs.declared.Slot.{Slot}
-use Rattle.slot_steps.specs.declared.opening.Opens.TheVariants.{Begun}
 use Rattle.occupancy.specs.Types.{table_of}
 use Rattle.table_calls.specs.Calls.{Call, Calls, CallsMean, Kept, ProgramMeets, left_by, opening_at, operation_of, playing_at, step_of}
 
@@ -81,7 +81,7 @@ program_meets = record {
   sound = λ xs empty cs f h.
       of_steps (Every SoundSlot) xs cs h ((operations.theorems).sound (table_of xs) empty (map operation_of cs) (fitting cs f));
   demand3 = λ xs before i o r ys during after f h n.
-      let t = opening_at i o r Begun ys in
+      let t = opening_at i o r (Ok tt) ys in
       (operations.theorems).demand3 (table_of xs) (map operation_of (before ++ (t ∷ (during ++ after)))) (fitting (before ++ (t ∷ (during ++ after))) f)
       (map step_of before) (step_of t) (map step_of during) (map step_of after) (sym h ∙ cut before t during after) i o r refl refl
       (every_map (λ (c : Call). NotOpened i (step_of c)) (NotOpened i) step_of (λ c g. g) during n);

@@ -1,5 +1,5 @@
 -- A list of calls of the program's two functions on one lent list of slots, in the program's own types. Assumes nothing.
-use Rattle.std.specs.Prelude.{◌≡◌, ◌↔◌, List, [], ◌++◌, ◌∷◌, map, ℕ}
+use Rattle.std.specs.Prelude.{◌≡◌, ◌↔◌, ⊤, List, [], ◌++◌, ◌∷◌, map, Ok, Result, ℕ}
 use Rattle.lists.specs.Lists.{Every}
 use Rattle.slots.specs.Openings.{open_at}
 use Rattle.slots.specs.RoundsAt.{round_at}
@@ -8,17 +8,16 @@ use Rattle.operations.specs.Operations.{AllEmpty, Fitting, Operation, Step, open
 use Rattle.operations.specs.Theorems.{AtMostFour, SoundSlot}
 use Rattle.session.specs.Types.{move_of}
 use Rattle.session.specs.declared.Move.{Move}
+use Rattle.session.specs.declared.answer.Ending.{Ending}
 use Rattle.slot_steps.specs.Types.{answer_of, opens_of}
 use Rattle.slot_steps.specs.declared.Slot.{Slot}
-use Rattle.slot_steps.specs.declared.answer.Answer.{Answer}
-use Rattle.slot_steps.specs.declared.opening.Opens.{Opens}
-use Rattle.slot_steps.specs.declared.opening.Opens.TheVariants.{Begun}
+use Rattle.slot_steps.specs.declared.refusal.Refusal.{Refusal}
 use Rattle.occupancy.specs.Types.{table_of}
 
 -- a call of `open_at` or of `round_at`: what it was given beside the list, what it answered, and the list that it left
 pub data Call : Type 0 where
-  opening_at : (slot owner request : ℕ) (answer : Opens) (leaves : List Slot) → Call
-  playing_at : (policy : List ℕ) (slot : ℕ) (taken : Move) (answer : Answer) (leaves : List Slot) → Call
+  opening_at : (slot owner request : ℕ) (answer : Result ⊤ Refusal) (leaves : List Slot) → Call
+  playing_at : (policy : List ℕ) (slot : ℕ) (taken : Move) (answer : Result Ending Refusal) (leaves : List Slot) → Call
 
 abbrev pub left_by : Call → List Slot
 left_by (opening_at i o r a ys) = ys
@@ -56,5 +55,5 @@ pub record ProgramMeets : Type 0 where
       → Every (λ c. Every SoundSlot (table_of (left_by c))) cs
   -- "the client's bounds hold for the rounds at one seat from an opening there that was not refused to the next such"
   pub demand3 : (xs : List Slot) (before : List Call) (i o r : ℕ) (ys : List Slot) (during after : List Call)
-      → (let cs = before ++ (opening_at i o r Begun ys ∷ (during ++ after)) in Every (λ c. Fitting (operation_of c)) cs → Calls xs cs
+      → (let cs = before ++ (opening_at i o r (Ok tt) ys ∷ (during ++ after)) in Every (λ c. Fitting (operation_of c)) cs → Calls xs cs
       → Every (λ c. NotOpened i (step_of c)) during → OneSession i r (map step_of during))

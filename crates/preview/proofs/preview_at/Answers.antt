@@ -1,16 +1,9 @@
 -- `preview::preview_at` meets its contract: inside, the slot's own preview; past the slots that can be named, the refusal alone. Assumes nothing.
-use Rattle.std.proofs.Common.{◌<◌, ◌≤◌, arith, length, refl, subst, ℕ}
+use Rattle.std.proofs.Common.{◌<◌, ◌≤◌, refl, subst, ℕ}
 use Rattle.session.specs.Types.{move_of}
 use Rattle.slot_preview.specs.Types.{preview_of}
-use Rattle.table.proofs.ListLaws.{named}
 use Rattle.preview.proofs.ListLaws.{preview_beyond, preview_inside}
 use Rattle.preview.proofs.preview_at.Goals as goal
-
-pub offset_bounds-slots-slot : goal.offset_bounds-slots-slot
-offset_bounds-slots-slot c = omega (arith, (named (length c.args.slots.now) _ _ c.slots_in-end.ensures c.if-slot-end.true).1)
-
-pub bounds-slots-slot : goal.bounds-slots-slot
-bounds-slots-slot c = (named (length c.args.slots.now) _ _ c.slots_in-end.ensures c.if-slot-end.true).0
 
 pub returns-then-slot-end : goal.returns-then-slot-end
 returns-then-slot-end c =
