@@ -11,27 +11,26 @@ ghost use Rattle.slot_packing.specs.Calls.{open_at_call, preview_at_call, round_
 ghost use Rattle.logs.specs.Comparison.{compared};
 ghost use Rattle.session_logs.specs.Exports.{comparison_reply, place_after, record_call};
 
-use disclosure::Disclosed;
 use entries::ENTRY_BYTES;
 use log_wire::{compare_logs, write_record};
-use model::Modelled;
-use policy::{Checked, check};
-use session::answer::Answer;
-use session::{Move, Opened, Session};
+use policy::check;
+use session::refusal::Refusal;
+use session::{Move, Session};
 use table_wire::{SLOT_BYTES, open_at, preview_at, round_at};
-use wire::packed::{RECORD_BYTES, Unpacked, pack, unpack};
+use wire::packed::{RECORD_BYTES, pack, unpack};
 use wire::reply;
 use wire::reply::DONE;
 
 // The policy's test.
 #[unsafe(no_mangle)]
+#[tactic(auto, unfolding(packing::specs::Exports::check_reply))]
 pub extern "C" fn gate_check(policy: &[u8]) -> u32
     ensures answer { result ≡ check_reply policy.now }
     ensures unchanged { policy.now ≡ policy.now }
 {
     match check(policy) {
-        Checked::Accepted => DONE,
-        Checked::Refused(refusal) => reply::of_policy(refusal),
+        Ok(()) => DONE,
+        Err(refusal) => reply::of_policy(refusal),
     }
 }
 
@@ -43,11 +42,11 @@ pub extern "C" fn gate_model(policy: &[u8], credentials: u16, set: &mut u64) -> 
     ensures unchanged { policy.now ≡ policy.now }
 {
     match model::model(policy, credentials) {
-        Modelled::Model(atoms) => {
+        Ok(atoms) => {
             *set = atoms.bits;
             DONE
         }
-        Modelled::Refused(refusal) => reply::of_policy(refusal),
+        Err(refusal) => reply::of_policy(refusal),
     }
 }
 
@@ -59,49 +58,48 @@ pub extern "C" fn gate_disclosable(policy: &[u8], shown: u16, set: &mut u16) -> 
     ensures unchanged { policy.now ≡ policy.now }
 {
     match disclosure::disclosable(policy, shown) {
-        Disclosed::Set(credentials) => {
+        Ok(credentials) => {
             *set = credentials;
             DONE
         }
-        Disclosed::Refused(refusal) => reply::of_policy(refusal),
+        Err(refusal) => reply::of_policy(refusal),
     }
 }
 
 // Opening; a fresh session is written unless the request is refused.
 #[unsafe(no_mangle)]
+#[tactic(auto, unfolding(packing::specs::Exports::open_call))]
 pub extern "C" fn gate_open(request: u16, session: &mut [u8; RECORD_BYTES]) -> u32
     ensures answer { result ≡ (open_call request session.old).reply }
     ensures written { session.new ≡ (open_call request session.old).leaves }
 {
     match Session::open(request) {
-        Opened::Fresh(fresh) => {
+        Ok(fresh) => {
             *session = pack(fresh);
             DONE
         }
-        Opened::Refused(refusal) => reply::of_refusal(refusal),
+        Err(refusal) => reply::of_refusal(refusal),
     }
 }
 
 // A round; the next session is written unless the round is refused.
 #[unsafe(no_mangle)]
+#[tactic(auto, unfolding(packing::specs::Exports::round_call))]
 pub extern "C" fn gate_round(policy: &[u8], session: &mut [u8; RECORD_BYTES], shown: u16) -> u32
     ensures answer { result ≡ (round_call policy.now session.old shown).reply }
     ensures written { session.new ≡ (round_call policy.now session.old shown).leaves }
     ensures unchanged { policy.now ≡ policy.now }
 {
-    let held = unpack(session);
-    let Unpacked::Session(before) = held else {
+    let Some(before) = unpack(session) else {
         return no_session(policy);
     };
     let outcome = before.round(policy, Move { shows: shown });
-    let answer = outcome.answer;
-    let after = outcome.session;
-    match answer {
-        Answer::Ends(ending) => {
-            *session = pack(after);
+    match outcome.answer {
+        Ok(ending) => {
+            *session = pack(outcome.session);
             reply::of_ending(ending)
         }
-        Answer::Refused(refusal) => reply::of_refusal(refusal),
+        Err(refusal) => reply::of_refusal(refusal),
     }
 }
 
@@ -169,9 +167,8 @@ pub extern "C" fn gate_preview_at(
 fn no_session(policy: &[u8]) -> u32
     ensures { result ≡ no_session_reply (policy_refusal policy.now) }
 {
-    let checked = check(policy);
-    match checked {
-        Checked::Accepted => 8,
-        Checked::Refused(refusal) => reply::of_policy(refusal),
+    match check(policy) {
+        Ok(()) => reply::of_refusal(Refusal::Unsound),
+        Err(refusal) => reply::of_policy(refusal),
     }
 }

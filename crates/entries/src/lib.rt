@@ -1,14 +1,16 @@
 // A log record (document 02, R-1): read, written, tested, and held against another.
 #![tactic(auto)]
 
-ghost use Rattle.std.specs.Prelude.{◌≡◌, ◌%◌, ◌*◌, ◌+◌, ◌/◌, ◌<◌, ◌≤◌, get_or, length};
+ghost use Rattle.std.specs.Prelude.{◌≡◌};
 ghost use Rattle.logs.specs.Agreement.{agree};
-ghost use Rattle.logs.specs.Entries.{entry_at, write_entry};
+ghost use Rattle.logs.specs.Entries.{read_entry, write_entry};
 ghost use Rattle.logs.specs.LogForm.{is_sound_entry};
 ghost use Rattle.entries.specs.Types.{entry_of};
 
 pub const ENTRY_BYTES: usize = 8;
 
+// What a record says was answered: bytes, and no enum with TryFrom, which is no plainer, since a log may hold any byte here and a record keeps the
+// one it has, so that the enum would be made only to be matched in `is_sound`.
 pub const GRANT: u8 = 1;
 
 pub const DENY: u8 = 2;
@@ -26,39 +28,41 @@ pub struct Entry {
 }
 
 impl Entry {
-    // The eight bytes of the record.
+    // The eight bytes of the record; a method, since it is a public function by this name.
+    #[tactic(auto, unfolding(logs::specs::Entries::write_entry, encoding::specs::LittleEndian::bytes_of))]
     pub fn bytes(self) -> [u8; ENTRY_BYTES]
         ensures { result ≡ write_entry (entry_of self) }
     {
+        let [shown_low, shown_high] = self.shown.to_le_bytes();
+        let [asked_low, asked_high] = self.asked.to_le_bytes();
+        let [pad_low, pad_high] = self.pad.to_le_bytes();
         [
-            low(self.shown),
-            high(self.shown),
+            shown_low,
+            shown_high,
             self.answer,
-            low(self.asked),
-            high(self.asked),
+            asked_low,
+            asked_high,
             self.count,
-            low(self.pad),
-            high(self.pad),
+            pad_low,
+            pad_high,
         ]
     }
 
     // Whether answer, asked set and pad go together: what refusal 11 tests.
+    #[tactic(auto, unfolding(logs::specs::LogForm::is_sound_entry))]
     pub fn is_sound(self) -> bool
         ensures { result ≡ is_sound_entry (entry_of self) }
     {
-        if self.pad != 0 {
-            return false;
-        }
-        let answer = self.answer;
-        match answer {
-            GRANT => self.asked == 0,
-            DENY => self.asked == 0,
+        let asks_rightly = match self.answer {
+            GRANT | DENY => self.asked == 0,
             ASK => self.asked != 0,
             _ => false,
-        }
+        };
+        self.pad == 0 && asks_rightly
     }
 
-    // Whether two records agree.
+    // Whether two records agree: by answer and asked set alone, so this is no derived equality.
+    #[tactic(auto, unfolding(logs::specs::Agreement::agree))]
     pub fn agrees(self, other: Entry) -> bool
         ensures { result ≡ agree (entry_of self) (entry_of other) }
     {
@@ -66,44 +70,18 @@ impl Entry {
     }
 }
 
-// Record k of a log that has it.
-pub fn entry_at(log: &[u8], k: usize) -> Entry
-    requires { 8 * k + 8 ≤ length log.now }
-    ensures { entry_of result ≡ entry_at log.now k }
-{
-    let at = 8 * k;
-    Entry {
-        shown: number_at(log, at),
-        answer: log[at + 2],
-        asked: number_at(log, at + 3),
-        count: log[at + 5],
-        pad: number_at(log, at + 6),
+// The record that eight bytes say.
+impl From<[u8; ENTRY_BYTES]> for Entry {
+    ghost from_gives = { λ bytes x. entry_of x ≡ read_entry bytes };
+
+    #[tactic(auto, unfolding(logs::specs::Entries::read_entry, encoding::specs::LittleEndian::little_endian))]
+    fn from(bytes: [u8; ENTRY_BYTES]) -> Entry {
+        Entry {
+            shown: u16::from_le_bytes([bytes[0], bytes[1]]),
+            answer: bytes[2],
+            asked: u16::from_le_bytes([bytes[3], bytes[4]]),
+            count: bytes[5],
+            pad: u16::from_le_bytes([bytes[6], bytes[7]]),
+        }
     }
-}
-
-// The number of the two bytes at i, the lower one first.
-fn number_at(log: &[u8], i: usize) -> u16
-    requires { i + 2 ≤ length log.now }
-    ensures { result ≡ get_or log.now i 0 + 256 * get_or log.now (i + 1) 0 }
-{
-    wide(log[i]) + 256 * wide(log[i + 1])
-}
-
-// A byte, widened.
-fn wide(byte: u8) -> u16
-    ensures { (result ≡ byte) × (result < 256) }
-{
-    byte as u16
-}
-
-fn low(number: u16) -> u8
-    ensures { result ≡ number % 256 }
-{
-    (number % 256) as u8
-}
-
-fn high(number: u16) -> u8
-    ensures { result ≡ number / 256 }
-{
-    (number / 256) as u8
 }

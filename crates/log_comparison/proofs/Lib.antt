@@ -1,5 +1,5 @@
 -- What the steps and types of logs come to.
-pub mod LoopLaws
+pub mod ChunkLaws
 pub mod CompareLaws
 pub mod TypeLaws
 pub mod TheoremsProof

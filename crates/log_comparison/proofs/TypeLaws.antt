@@ -4,11 +4,11 @@ use mathlib.Core.Bool.{cond}
 use mathlib.Core.Option.{Option, none, some}
 use Prim.Native.Nat.{ℕ}
 use lib.Dec.{eqb}
+use Rattle.std.specs.Prelude.{Err, None, Ok, Result, Some}
+use Rattle.std.specs.Prelude as P
 use Rattle.validation.specs.Unless.{Unless, given, withheld}
 use Rattle.atoms.proofs.MapLaws.{one_to_one}
 use Rattle.log_comparison.specs.Types.{compared_of, refusal_of}
-use Rattle.log_comparison.specs.declared.compare.Compared.{Compared}
-use Rattle.log_comparison.specs.declared.compare.Compared.TheVariants.{Agreement, Part, Refused}
 use Rattle.log_comparison.specs.declared.compare.Refusal.{Refusal}
 use Rattle.log_comparison.specs.declared.compare.Refusal.TheVariants.{Length, Record}
 
@@ -20,16 +20,16 @@ unfolding refusal_back
 refusal_back_lem Length = refl
 refusal_back_lem Record = refl
 
-compared_back : Unless ℕ (Option ℕ) → Compared
-compared_back (given none) = Agreement
-compared_back (given (some k)) = Part k
-compared_back (withheld n) = Refused (refusal_back n)
+compared_back : Unless ℕ (Option ℕ) → Result (P.Option ℕ) Refusal
+compared_back (given none) = Ok None
+compared_back (given (some k)) = Ok (Some k)
+compared_back (withheld n) = Err (refusal_back n)
 
-compared_back_lem : (x : Compared) → compared_back (compared_of x) ≡ x
+compared_back_lem : (x : Result (P.Option ℕ) Refusal) → compared_back (compared_of x) ≡ x
 unfolding compared_back
-compared_back_lem Agreement = refl
-compared_back_lem (Part k) = refl
-compared_back_lem (Refused f) = ap Refused (refusal_back_lem f)
+compared_back_lem (Ok None) = refl
+compared_back_lem (Ok (Some k)) = refl
+compared_back_lem (Err f) = ap Err (refusal_back_lem f)
 
-pub compared_one : (x y : Compared) → compared_of x ≡ compared_of y → x ≡ y
+pub compared_one : (x y : Result (P.Option ℕ) Refusal) → compared_of x ≡ compared_of y → x ≡ y
 compared_one = one_to_one compared_of compared_back compared_back_lem

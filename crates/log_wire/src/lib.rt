@@ -3,20 +3,20 @@
 
 ghost use Rattle.std.specs.Prelude.{◌≡◌};
 ghost use Rattle.logs.specs.Comparison.{compared};
-ghost use Rattle.log_comparison.specs.Types.{refusal_of};
 ghost use Rattle.session_logs.specs.Exports.{comparison_reply, place_after, record_call};
 
 use entries::ENTRY_BYTES;
-use log_comparison::compare::{Compared, Refusal, compare};
+use log_comparison::compare::compare;
 use recorder::reply::{SESSION_BYTES, of_reply};
 
-// The logs agree.
+// What gate_compare_logs replies to C, where it is no refusal's number: the logs agree.
 const DONE: u32 = 0;
 
 // The logs part.
 const PART: u32 = 0x400;
 
 // The record of a round, written unless the round was refused; the number of bytes written comes back.
+#[tactic(auto, unfolding(session_logs::specs::Exports::record_call))]
 pub fn write_record(
     shown: u16,
     reply: u32,
@@ -27,13 +27,11 @@ pub fn write_record(
     ensures written { bytes.new ≡ (record_call shown reply session.now bytes.old).leaves }
     ensures unchanged { session.now ≡ session.now }
 {
-    let logged = of_reply(shown, reply, session);
-    if logged.accepted {
-        let written = logged.bytes;
-        *bytes = written;
-        return 8;
-    }
-    0
+    let Some(record) = of_reply(shown, reply, session) else {
+        return 0;
+    };
+    *bytes = record;
+    ENTRY_BYTES
 }
 
 // The comparison of two logs; the record where they part is written if they do.
@@ -43,18 +41,11 @@ pub fn compare_logs(first: &[u8], second: &[u8], place: &mut usize) -> u32
     ensures unchanged { (first.now ≡ first.now) × (second.now ≡ second.now) }
 {
     match compare(first, second) {
-        Compared::Agreement => DONE,
-        Compared::Part(k) => {
+        Ok(None) => DONE,
+        Ok(Some(k)) => {
             *place = k;
             PART
         }
-        Compared::Refused(refusal) => refused(refusal),
+        Err(refusal) => u32::from(refusal.number()),
     }
-}
-
-// A refusal's number.
-fn refused(refusal: Refusal) -> u32
-    ensures { result ≡ refusal_of refusal }
-{
-    refusal.number() as u32
 }

@@ -1,3 +1,2 @@
--- What the flag says, and the theorems.
-pub mod FlagLaws
+-- The theorems.
 pub mod TheoremsProof

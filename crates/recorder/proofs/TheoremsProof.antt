@@ -1,34 +1,29 @@
--- The theorems of specs/Theorems. Assumes nothing.
-use mathlib.Core.Path.{◌∙◌, ◌≡◌, ap, refl}
-use mathlib.Core.Bool.{cond}
+-- The theorems of specs/Theorems: the map has a way back. Assumes nothing.
+use mathlib.Core.Path.{◌≡◌, ap, refl}
 use mathlib.Core.List.{List}
 use mathlib.Core.Option.{Option, none, some}
 use Prim.Native.Nat.{ℕ}
+use Rattle.std.specs.Prelude.{None, Some}
+use Rattle.std.specs.Prelude as P
 use Rattle.atoms.proofs.MapLaws.{one_to_one}
-use Rattle.recorder.specs.Types.{Flagged, flagged, logged_of}
+use Rattle.recorder.specs.Types.{logged_of}
 use Rattle.recorder.specs.Theorems.{Theorems}
-use Rattle.recorder.specs.declared.Logged.{Logged}
-use Rattle.recorder.proofs.FlagLaws.{flagged_none, flagged_some}
 
-logged_back : Flagged → Logged
-logged_back f = record { accepted = f.accepted; bytes = f.bytes }
+logged_back : Option (List ℕ) → P.Option (List ℕ)
+logged_back none = None
+logged_back (some bytes) = Some bytes
 
-logged_back_lem : (x : Logged) → logged_back (logged_of x) ≡ x
+logged_back_lem : (x : P.Option (List ℕ)) → logged_back (logged_of x) ≡ x
 unfolding logged_back
-logged_back_lem x = refl
+logged_back_lem None = refl
+logged_back_lem (Some bytes) = refl
 
-flagged_back : Flagged → Option (List ℕ)
-flagged_back f = cond f.accepted (some f.bytes) none
-
-flagged_back_lem : (o : Option (List ℕ)) → flagged_back (flagged o) ≡ o
-unfolding flagged_back
-flagged_back_lem none = refl
-flagged_back_lem (some bs) = refl
+logged_one : (x y : P.Option (List ℕ)) → logged_of x ≡ logged_of y → x ≡ y
+logged_one = one_to_one logged_of logged_back logged_back_lem
 
 pub theorems : Theorems
 theorems = record {
-  logged_one = one_to_one logged_of logged_back logged_back_lem;
-  flagged_one = one_to_one flagged flagged_back flagged_back_lem;
-  accepted = λ x o e. (flagged_some (logged_of x) o e, λ i. ap (λ (y : Flagged). y.accepted) (e ∙ ap flagged i));
-  unaccepted = λ x o e. (flagged_none (logged_of x) o e, λ i. ap (λ (y : Flagged). y.accepted) (e ∙ ap flagged i));
+  logged_one = logged_one;
+  accepted = λ x bytes. (ap logged_of, logged_one x (Some bytes));
+  unaccepted = λ x. (ap logged_of, logged_one x None);
 }

@@ -1,20 +1,9 @@
--- What the program's type means: a record, or none and eight zeros. Assumes nothing.
-use Rattle.std.specs.Prelude.{Bool, cond, false, true, List, [], ◌∷◌, ℕ}
+-- What the program's answer means: the record of a round, if there is one. Assumes nothing.
+use Rattle.std.specs.Prelude.{List, None, Some, ℕ}
+use Rattle.std.specs.Prelude as P
 use Rattle.std.proofs.Math.Option.{Option, none, some}
-use Rattle.recorder.specs.declared.Logged.{Logged}
 
--- eight bytes beside a flag
-pub record Flagged : Type 0 where
-  pub accepted : Bool
-  pub bytes : List ℕ
-
-abbrev pub flagged : Option (List ℕ) → Flagged
-flagged none = record { accepted = false; bytes = 0 ∷ 0 ∷ 0 ∷ 0 ∷ 0 ∷ 0 ∷ 0 ∷ 0 ∷ [] }
-flagged (some bs) = record { accepted = true; bytes = bs }
-
--- the record, where the flag is set
-abbrev pub record_in : Logged → Option (List ℕ)
-record_in r = cond r.accepted (some r.bytes) none
-
-abbrev pub logged_of : Logged → Flagged
-logged_of r = record { accepted = r.accepted; bytes = r.bytes }
+-- the eight bytes of the record, or none
+abbrev pub logged_of : P.Option (List ℕ) → Option (List ℕ)
+logged_of None = none
+logged_of (Some bytes) = some bytes

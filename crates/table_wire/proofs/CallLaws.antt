@@ -1,5 +1,5 @@
 -- The calls as the program makes them: past the table's end, at what is no slot, and at a slot. Assumes nothing.
-use mathlib.Core.Path.{◌≡◌, refl}
+use mathlib.Core.Path.{◌∙◌, ◌≡◌, ap, refl, sym}
 use mathlib.Core.Bool.{Bool, ◌&&◌, cond, false, true}
 use mathlib.Core.List.{List}
 use mathlib.Core.Option.{Option, none, some}
@@ -26,6 +26,7 @@ use Rattle.slot_packing.proofs.CallLaws.{ReadAs}
 use Rattle.slot_packing.proofs.KeepLaws.{room}
 use Rattle.slot_packing.proofs.PreviewLaws as turns
 use Rattle.table_wire.specs.Types.{no_slot_reply, or_empty}
+use Rattle.table_wire.proofs.CountLaws.{counted_all}
 
 module _ (bytes : List ℕ) (i : ℕ) where
   named_true : i < min (slots_in bytes) 64 → named bytes i ≡ true
@@ -62,7 +63,7 @@ module _ (bytes : List ℕ) (i : ℕ) where
           go true e = rw (named_true l, found, e)
           go false e = rw (named_true l, found, e)
 
-      pub open_slot_lem : (x : Slot) (n : ℕ) → slot_in bytes i ≡ some x → unfinished_in o bytes slot_limit ≡ n → (t : SlotOpening) → t ≡ open_slot x n o r
+      open_slot_lem : (x : Slot) (n : ℕ) → slot_in bytes i ≡ some x → unfinished_in o bytes slot_limit ≡ n → (t : SlotOpening) → t ≡ open_slot x n o r
           → open_at_call bytes i o r ≡ taken_call t.answer bytes i t.slot
       unfolding open_at_call open_at_refusal first_failed relabelled open_slot opening opening_tests take_slot
       open_slot_lem x n found count t is = rw is (go (is_service r) (is_free x) (ltb n most_unfinished) refl refl refl)
@@ -73,6 +74,12 @@ module _ (bytes : List ℕ) (i : ℕ) where
           go true true false e f g = rw (named_true l, found, count, e, f, g)
           go true false d e f g = rw (named_true l, found, e, f)
           go false b d e f g = rw (named_true l, found, e)
+
+      -- with the count of the slots that can be named
+      pub opened_at : (x : Slot) → slot_in bytes i ≡ some x → (slots n : ℕ) → slots ≡ min (slots_in bytes) 64 → n ≡ unfinished_in o bytes slots
+          → (t : SlotOpening) → t ≡ open_slot x n o r → open_at_call bytes i o r ≡ taken_call t.answer bytes i t.slot
+      opened_at x found slots n reach counted =
+          open_slot_lem x n found (counted_all o bytes ∙ ap (unfinished_in o bytes) (sym reach) ∙ sym counted)
 
   -- ---- a round, and its preview
 

@@ -7,12 +7,10 @@ ghost use Rattle.slot_packing.specs.Calls.{open_at_call, preview_at_call, round_
 ghost use Rattle.slot_steps.specs.Types.{turn_of};
 
 use count::{owned, reach};
-use packed::{Found, or_empty, pack_slot, put, slot_at};
+use packed::{EMPTY, pack_slot, put, slot_at};
 use session::Move;
-use slot_steps::answer::Answer;
-use slot_steps::opening::{Opens, open_past, slot_open};
+use slot_steps::opening::{open_past, slot_open};
 use slot_steps::round::{Turn, round_past, slot_round};
-use slot_steps::{Holding, Slot};
 use wire::reply::{DONE, of_ending};
 
 mod count;
@@ -30,19 +28,15 @@ pub fn open_at(table: &mut [u8], slot: usize, owner: u8, request: u16) -> u32
     if slot >= slots {
         return reply::of_opens(open_past(request));
     }
-    let found = slot_at(table, slot);
-    let Found::Slot(before) = found else {
+    let Some(before) = slot_at(table, slot) else {
         return reply::no_slot(request);
     };
-    let opening = slot_open(before, owned(table, slots, owner), owner, request);
-    let answer = opening.answer;
-    let after = opening.slot;
-    match answer {
-        Opens::Begun => {
+    match slot_open(before, owned(table, slots, owner), owner, request) {
+        Ok(after) => {
             put(table, slot, after);
             DONE
         }
-        Opens::Refused(refusal) => reply::of_refusal(refusal),
+        Err(refusal) => reply::of_refusal(refusal),
     }
 }
 
@@ -53,18 +47,17 @@ pub fn round_at(policy: &[u8], table: &mut [u8], slot: usize, shown: u16) -> u32
     ensures unchanged { policy.now ≡ policy.now }
 {
     let turn = turn_at(policy, table, slot, shown);
-    let answer = turn.answer;
-    let after = turn.slot;
-    match answer {
-        Answer::Ends(ending) => {
-            put(table, slot, after);
+    match turn.answer {
+        Ok(ending) => {
+            put(table, slot, turn.slot);
             of_ending(ending)
         }
-        Answer::Refused(refusal) => reply::of_refusal(refusal),
+        Err(refusal) => reply::of_refusal(refusal),
     }
 }
 
 // A preview of that round: its reply, and the slot after it; an empty one where no session is given.
+#[tactic(auto, unfolding(slot_packing::specs::Calls::preview_at_call))]
 pub fn preview_at(
     policy: &[u8],
     table: &[u8],
@@ -77,10 +70,8 @@ pub fn preview_at(
     ensures unchanged { (policy.now ≡ policy.now) × (table.now ≡ table.now) }
 {
     let turn = turn_at(policy, table, slot, shown);
-    let answer = turn.answer;
-    let after = turn.slot;
-    *preview = pack_slot(after);
-    reply::of_answer(answer)
+    *preview = pack_slot(turn.slot);
+    reply::of_answer(turn.answer)
 }
 
 // What the round answers, and the slot after it.
@@ -90,11 +81,10 @@ fn turn_at(policy: &[u8], table: &[u8], slot: usize, shown: u16) -> Turn
     if slot >= reach(table.len()) {
         return Turn {
             answer: round_past(policy),
-            slot: Slot {
-                holding: Holding::Empty,
-            },
+            slot: EMPTY,
         };
     }
-    let found = slot_at(table, slot);
-    slot_round(or_empty(found), policy, Move { shows: shown })
+    // What is no slot is answered as an empty one is.
+    let held = slot_at(table, slot).unwrap_or(EMPTY);
+    slot_round(held, policy, Move { shows: shown })
 }

@@ -6,9 +6,8 @@ ghost use Rattle.packing.specs.Replies.{answer_reply, refusal_reply};
 ghost use Rattle.slot_packing.specs.Calls.{opening_reply};
 ghost use Rattle.table_wire.specs.Types.{no_slot_reply};
 
-use session::{Opened, Session};
+use session::Session;
 use slot_steps::answer::Answer;
-use slot_steps::opening::Opens;
 use slot_steps::refusal::Refusal;
 use wire::reply;
 use wire::reply::DONE;
@@ -18,18 +17,16 @@ pub(crate) fn of_refusal(refusal: Refusal) -> u32
 {
     match refusal {
         Refusal::Session(refused) => reply::of_refusal(refused),
-        Refusal::NoSlot => 14,
-        Refusal::Unfinished => 15,
-        Refusal::Full => 16,
+        Refusal::NoSlot | Refusal::Unfinished | Refusal::Full => u32::from(refusal.number()),
     }
 }
 
-pub(crate) fn of_opens(opens: Opens) -> u32
+pub(crate) fn of_opens(opens: Result<(), Refusal>) -> u32
     ensures { result ≡ opening_reply (opens_of opens) }
 {
     match opens {
-        Opens::Begun => DONE,
-        Opens::Refused(refusal) => of_refusal(refusal),
+        Ok(()) => DONE,
+        Err(refusal) => of_refusal(refusal),
     }
 }
 
@@ -37,8 +34,8 @@ pub(crate) fn of_answer(answer: Answer) -> u32
     ensures { result ≡ answer_reply (answer_of answer) }
 {
     match answer {
-        Answer::Ends(ending) => reply::of_ending(ending),
-        Answer::Refused(refusal) => of_refusal(refusal),
+        Ok(ending) => reply::of_ending(ending),
+        Err(refusal) => of_refusal(refusal),
     }
 }
 
@@ -46,9 +43,8 @@ pub(crate) fn of_answer(answer: Answer) -> u32
 pub(crate) fn no_slot(request: u16) -> u32
     ensures { result ≡ no_slot_reply (opening request) }
 {
-    let opened = Session::open(request);
-    match opened {
-        Opened::Fresh(_) => 8,
-        Opened::Refused(refusal) => reply::of_refusal(refusal),
+    match Session::open(request) {
+        Ok(_) => reply::of_refusal(session::refusal::Refusal::Unsound),
+        Err(refusal) => reply::of_refusal(refusal),
     }
 }

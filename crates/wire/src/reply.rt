@@ -1,5 +1,5 @@
 // Answers as numbers (packing's specs/Replies says which).
-ghost use Rattle.std.specs.Prelude.{◌≡◌, ◌<◌};
+ghost use Rattle.std.specs.Prelude.{◌≡◌};
 ghost use Rattle.policy.specs.Types as policy_types;
 ghost use Rattle.session.specs.Types.{ending_of, refusal_of};
 ghost use Rattle.packing.specs.Replies.{ending_reply, policy_reply, refusal_reply};
@@ -7,9 +7,10 @@ ghost use Rattle.packing.specs.Replies.{ending_reply, policy_reply, refusal_repl
 use session::answer::Ending;
 use session::refusal::Refusal;
 
-// Nothing is refused, and there is no more to say.
+// Numbers for C (include/gate.h). Nothing is refused, and there is no more to say.
 pub const DONE: u32 = 0;
 
+// How a round ended: the reply's higher byte.
 const GRANT: u32 = 1;
 
 const DENY: u32 = 2;
@@ -20,7 +21,7 @@ const ASK: u32 = 3;
 pub fn of_policy(refusal: policy::refusal::Refusal) -> u32
     ensures { result ≡ policy_reply (policy_types.refusal_of refusal) }
 {
-    wide(refusal.number()) + 256 * wide(refusal.record())
+    u32::from(refusal.number()) + 256 * u32::from(refusal.record())
 }
 
 pub fn of_refusal(refusal: Refusal) -> u32
@@ -28,9 +29,7 @@ pub fn of_refusal(refusal: Refusal) -> u32
 {
     match refusal {
         Refusal::Policy(refused) => of_policy(refused),
-        Refusal::Request => wide(refusal.number()),
-        Refusal::Unsound => wide(refusal.number()),
-        Refusal::Closed => wide(refusal.number()),
+        Refusal::Request | Refusal::Unsound | Refusal::Closed => u32::from(refusal.number()),
     }
 }
 
@@ -43,11 +42,4 @@ pub fn of_ending(ending: Ending) -> u32
         Ending::Deny => 256 * DENY,
         Ending::Ask(_) => 256 * ASK,
     }
-}
-
-// A byte, widened.
-fn wide(byte: u8) -> u32
-    ensures { (result ≡ byte) × (result < 256) }
-{
-    byte as u32
 }

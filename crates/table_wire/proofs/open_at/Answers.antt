@@ -2,66 +2,38 @@ use mathlib.Core.Path.{◌∙◌, ap, refl, sym}
 use Prim.Native.Nat.{◌/◌, ◌<◌, ◌≤◌, min}
 use lib.ListN.{length}
 use native.Mathlib.Omega.{arith}
-use Rattle.slot_packing.specs.Calls.{opening_reply, unfinished_in}
-use Rattle.table_wire.specs.Types.{found_of}
-use Rattle.table_wire.proofs.CallLaws.{open_nothing, open_past, open_slot_lem}
-use Rattle.table_wire.proofs.CountLaws.{counted_all}
+use Rattle.slot_packing.specs.Calls.{opening_reply}
+use Rattle.table_wire.proofs.CallLaws.{open_nothing, open_past, opened_at}
 use Rattle.table_wire.proofs.open_at.Goals as goal
 
-pub returns-then-slot-slots-clause-answer : goal.returns-then-slot-slots-clause-answer
-returns-then-slot-slots-clause-answer c =
+pub returns-then-slot-slots : goal.returns-then-slot-slots
+returns-then-slot-slots c =
     let a = c.args in
     let l : min (length a.table.now / 12) 64 ≤ a.slot = omega (arith, c.reach-slots.ensures, c.if-slot-slots.true) in
-    rw (open_past a.table.now a.slot a.owner a.request l) (c.of_opens.ensures ∙ ap opening_reply c.open_past.ensures)
+    let called = open_past a.table.now a.slot a.owner a.request l in
+    record { answer = rw called (c.of_opens.ensures ∙ ap opening_reply c.open_past.ensures); written = rw called refl }
 
-pub returns-then-slot-slots-clause-written : goal.returns-then-slot-slots-clause-written
-returns-then-slot-slots-clause-written c =
-    let a = c.args in
-    let l : min (length a.table.now / 12) 64 ≤ a.slot = omega (arith, c.reach-slots.ensures, c.if-slot-slots.true) in
-    rw (open_past a.table.now a.slot a.owner a.request l) refl
-
-pub returns-in_default-clause-answer : goal.returns-in_default-clause-answer
-returns-in_default-clause-answer c =
+pub returns-in_default : goal.returns-in_default
+returns-in_default c =
     let a = c.args in
     let l : a.slot < min (length a.table.now / 12) 64 = omega (arith, c.reach-slots.ensures, c.if-slot-slots.false) in
-    let found = sym c.slot_at-found.ensures ∙ ap found_of c.in_default.is in
-    rw (open_nothing a.table.now a.slot a.owner a.request l found) c.no_slot.ensures
+    let called = open_nothing a.table.now a.slot a.owner a.request l (sym c.in_default.ensures) in
+    record { answer = rw called c.no_slot.ensures; written = rw called refl }
 
-pub returns-in_default-clause-written : goal.returns-in_default-clause-written
-returns-in_default-clause-written c =
+pub returns-in-Ok : goal.returns-in-Ok
+returns-in-Ok c =
     let a = c.args in
     let l : a.slot < min (length a.table.now / 12) 64 = omega (arith, c.reach-slots.ensures, c.if-slot-slots.false) in
-    let found = sym c.slot_at-found.ensures ∙ ap found_of c.in_default.is in
-    rw (open_nothing a.table.now a.slot a.owner a.request l found) refl
+    let called =
+    opened_at a.table.now a.slot a.owner a.request l _ (sym c.in-Some.ensures) _ _ c.reach-slots.ensures c.owned.ensures _ c.in-Ok.ensures
+    in
+    record { answer = rw called refl; written = rw called c.put.ensures }
 
-pub returns-in-Begun-clause-answer : goal.returns-in-Begun-clause-answer
-returns-in-Begun-clause-answer c =
+pub returns-in-Err : goal.returns-in-Err
+returns-in-Err c =
     let a = c.args in
     let l : a.slot < min (length a.table.now / 12) 64 = omega (arith, c.reach-slots.ensures, c.if-slot-slots.false) in
-    let found = sym c.slot_at-found.ensures ∙ ap found_of c.in-Slot.is in
-    let count = counted_all a.owner a.table.now ∙ ap (unfinished_in a.owner a.table.now) (sym c.reach-slots.ensures) ∙ sym c.owned.ensures in
-    rw (open_slot_lem a.table.now a.slot a.owner a.request l _ _ found count _ c.slot_open-opening.ensures, c.in-Begun.is) refl
-
-pub returns-in-Begun-clause-written : goal.returns-in-Begun-clause-written
-returns-in-Begun-clause-written c =
-    let a = c.args in
-    let l : a.slot < min (length a.table.now / 12) 64 = omega (arith, c.reach-slots.ensures, c.if-slot-slots.false) in
-    let found = sym c.slot_at-found.ensures ∙ ap found_of c.in-Slot.is in
-    let count = counted_all a.owner a.table.now ∙ ap (unfinished_in a.owner a.table.now) (sym c.reach-slots.ensures) ∙ sym c.owned.ensures in
-    rw (open_slot_lem a.table.now a.slot a.owner a.request l _ _ found count _ c.slot_open-opening.ensures, c.in-Begun.is) c.put.ensures
-
-pub returns-in-Refused-clause-answer : goal.returns-in-Refused-clause-answer
-returns-in-Refused-clause-answer c =
-    let a = c.args in
-    let l : a.slot < min (length a.table.now / 12) 64 = omega (arith, c.reach-slots.ensures, c.if-slot-slots.false) in
-    let found = sym c.slot_at-found.ensures ∙ ap found_of c.in-Slot.is in
-    let count = counted_all a.owner a.table.now ∙ ap (unfinished_in a.owner a.table.now) (sym c.reach-slots.ensures) ∙ sym c.owned.ensures in
-    rw (open_slot_lem a.table.now a.slot a.owner a.request l _ _ found count _ c.slot_open-opening.ensures, c.in-Refused.is) c.of_refusal.ensures
-
-pub returns-in-Refused-clause-written : goal.returns-in-Refused-clause-written
-returns-in-Refused-clause-written c =
-    let a = c.args in
-    let l : a.slot < min (length a.table.now / 12) 64 = omega (arith, c.reach-slots.ensures, c.if-slot-slots.false) in
-    let found = sym c.slot_at-found.ensures ∙ ap found_of c.in-Slot.is in
-    let count = counted_all a.owner a.table.now ∙ ap (unfinished_in a.owner a.table.now) (sym c.reach-slots.ensures) ∙ sym c.owned.ensures in
-    rw (open_slot_lem a.table.now a.slot a.owner a.request l _ _ found count _ c.slot_open-opening.ensures, c.in-Refused.is) refl
+    let called =
+    opened_at a.table.now a.slot a.owner a.request l _ (sym c.in-Some.ensures) _ _ c.reach-slots.ensures c.owned.ensures _ c.in-Err.ensures
+    in
+    record { answer = rw called c.of_refusal.ensures; written = rw called refl }

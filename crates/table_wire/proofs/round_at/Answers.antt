@@ -8,25 +8,25 @@ use Rattle.table_wire.proofs.round_at.Goals as goal
 pub put-requires : goal.put-requires
 put-requires c =
     let a = c.args in
-    let ended = sym (ap (λ (t : SlotTurn). t.answer) c.turn_at-turn.ensures) ∙ ap answer_of c.in-Ends.is in
+    let ended = sym (ap (λ (t : SlotTurn). t.answer) c.turn_at-turn.ensures) ∙ ap answer_of c.in-Ok.is in
     turn_room a.table.now a.slot a.policy.now a.shown _ ended
 
-pub returns-in-Ends-clause-answer : goal.returns-in-Ends-clause-answer
-returns-in-Ends-clause-answer c =
+pub returns-in-Ok : goal.returns-in-Ok
+returns-in-Ok c =
     let a = c.args in
-    rw (round_by_turn a.policy.now a.table.now a.slot a.shown, ← c.turn_at-turn.ensures, c.in-Ends.is) c.of_ending.ensures
+    let called = round_by_turn a.policy.now a.table.now a.slot a.shown in
+    record {
+      answer = rw (called, ← c.turn_at-turn.ensures, c.in-Ok.is) c.of_ending.ensures;
+      written = rw (called, ← c.turn_at-turn.ensures, c.in-Ok.is) c.put.ensures;
+      unchanged = refl;
+    }
 
-pub returns-in-Ends-clause-written : goal.returns-in-Ends-clause-written
-returns-in-Ends-clause-written c =
+pub returns-in-Err : goal.returns-in-Err
+returns-in-Err c =
     let a = c.args in
-    rw (round_by_turn a.policy.now a.table.now a.slot a.shown, ← c.turn_at-turn.ensures, c.in-Ends.is) c.put.ensures
-
-pub returns-in-Refused-clause-answer : goal.returns-in-Refused-clause-answer
-returns-in-Refused-clause-answer c =
-    let a = c.args in
-    rw (round_by_turn a.policy.now a.table.now a.slot a.shown, ← c.turn_at-turn.ensures, c.in-Refused.is) c.of_refusal.ensures
-
-pub returns-in-Refused-clause-written : goal.returns-in-Refused-clause-written
-returns-in-Refused-clause-written c =
-    let a = c.args in
-    rw (round_by_turn a.policy.now a.table.now a.slot a.shown, ← c.turn_at-turn.ensures, c.in-Refused.is) refl
+    let called = round_by_turn a.policy.now a.table.now a.slot a.shown in
+    record {
+      answer = rw (called, ← c.turn_at-turn.ensures, c.in-Err.is) c.of_refusal.ensures;
+      written = rw (called, ← c.turn_at-turn.ensures, c.in-Err.is) refl;
+      unchanged = refl;
+    }
