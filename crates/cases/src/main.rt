@@ -11,8 +11,9 @@ const MOST_CASES: u64 = 65536;
 fn main(rt: HostRuntime) {
     let mut space = [0u8; 4096];
     let mut input = rt.reader();
-    let mut left = MOST_CASES;
-    while left > 0 && case::run(&rt, &mut input, &mut space) {
-        left -= 1;
+    for _ in 0..MOST_CASES {
+        if !case::run(&rt, &mut input, &mut space) {
+            break;
+        }
     }
 }

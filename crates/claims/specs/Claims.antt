@@ -55,7 +55,7 @@
 --   AnswersOtherwise, ImplementationsCompared; record_call, Recorded, comparison_reply, place_after
 -- recording: event_record, logged, event_notice, noticed, recorded_log, recorded_notice, Writes; written_of, Writing, WrittenAs, Writings, calls_of, log_in,
 --   notice_in
--- recorder: Flagged, flagged, record_in
+-- recorder: logged_of
 -- and the cases of the types among them, and the maps from the program's types (specs/Types of records, policy, disclosure, model, search, question,
 -- session, slot_steps, slot_preview, occupancy, station_table, replay, entries, log_comparison and recorder; specs/Steps of console). What a word computes is no
 -- matter of belief where a theorem here says what it gives: the operations on sets, the closure, the model, the disclosable set, the tests, the

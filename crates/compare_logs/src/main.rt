@@ -1,10 +1,9 @@
 // Two logs held against each other (document 02, R-1): reads the two files that are named and prints where they part, if they do.
 #![tactic(auto)]
 
-ghost use Rattle.std.specs.Prelude.{◌≡◌, length};
+ghost use Rattle.std.specs.Prelude.{◌≡◌, IfSome, length};
 ghost use Rattle.std.specs.Counts.{IsPrefixLen};
 
-use files::Contents;
 use log_comparison::compare::compare;
 use std::env::FillError;
 use std::rt::{Env, Files};
@@ -14,25 +13,21 @@ mod print;
 // As much as a log may have; there is room for one byte more, which tells a longer file.
 const MOST_BYTES: usize = 1048576;
 
-const ROOM: usize = 1048577;
+const ROOM: usize = MOST_BYTES + 1;
 
 fn main(rt: HostRuntime) {
     if !has_argument(&rt, 2) || has_argument(&rt, 3) {
-        print::text(&rt, b"usage: compare_logs FIRST SECOND\n");
+        let _ = println!(rt; "usage: compare_logs FIRST SECOND");
         return;
     }
     let mut first = room();
-    let read = log(&rt, 1, &mut first);
-    let in_first = read.bytes;
-    if !read.readable {
+    let Some(in_first) = log(&rt, 1, &mut first) else {
         return;
-    }
+    };
     let mut second = room();
-    let read = log(&rt, 2, &mut second);
-    let in_second = read.bytes;
-    if !read.readable {
+    let Some(in_second) = log(&rt, 2, &mut second) else {
         return;
-    }
+    };
     print::compared(&rt, compare(&first[..in_first], &second[..in_second]));
 }
 
@@ -45,11 +40,7 @@ fn room() -> [u8; ROOM]
 // Whether there is an argument i; the program's name is argument 0.
 fn has_argument(rt: &impl Env, i: usize) -> bool {
     let mut first_byte = [0u8; 1];
-    match rt.arg(i, &mut first_byte) {
-        Ok(_) => true,
-        Err(FillError::TooLong) => true,
-        Err(FillError::NotPresent) => false,
-    }
+    !matches!(rt.arg(i, &mut first_byte), Err(FillError::NotPresent))
 }
 
 // Argument i, and how long it is: 0 where there is no room for it.
@@ -59,23 +50,20 @@ fn argument(rt: &impl Env, i: usize, space: &mut [u8; 4096]) -> usize
     rt.arg(i, space).unwrap_or(0)
 }
 
-// Reads the log that argument i names; prints a line where it cannot be read or is too long.
-fn log(rt: &(impl Env + Files + Print), i: usize, space: &mut [u8]) -> Contents
-    ensures { IsPrefixLen result.bytes space.new }
+// Reads the log that argument i names, and says how many bytes there are; prints a line where it cannot be read or is too long.
+fn log(rt: &(impl Env + Files + Print), i: usize, space: &mut [u8]) -> Option<usize>
+    ensures { IfSome result (λ bytes. IsPrefixLen bytes space.new) }
 {
-    let mut name = [0u8; 4096];
-    let length = argument(rt, i, &mut name);
-    let read = files::read(rt, &name[..length], space);
-    if !read.readable {
-        print::named(rt, b"cannot read ", &name[..length]);
-        return read;
+    let mut given = [0u8; 4096];
+    let length = argument(rt, i, &mut given);
+    let name = &given[..length];
+    let Some(bytes) = files::read(rt, name, space) else {
+        print::named(rt, "cannot read ", name);
+        return None;
+    };
+    if bytes > MOST_BYTES {
+        print::named(rt, "too long ", name);
+        return None;
     }
-    if read.bytes > MOST_BYTES {
-        print::named(rt, b"too long ", &name[..length]);
-        return Contents {
-            readable: false,
-            bytes: 0,
-        };
-    }
-    read
+    Some(bytes)
 }

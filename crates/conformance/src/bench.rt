@@ -5,12 +5,12 @@ use console::reader::Reader;
 // Takes the input a byte at a time, as that program does, until nothing more is printed.
 pub(crate) fn run(rt: &impl Print, policy: &[u8], input: &[u8]) {
     let mut reader = Reader::begin();
-    let mut i: usize = 0;
-    while i < input.len() && !reader.ended() {
-        let step = reader.next(policy, input[i]);
-        let event = step.event;
+    for byte in input {
+        if reader.ended() {
+            return;
+        }
+        let step = reader.next(policy, *byte);
+        print::line(rt, &lines::of_event(step.event));
         reader = step.reader;
-        print::line(rt, lines::of_event(event));
-        i += 1;
     }
 }

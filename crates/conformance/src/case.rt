@@ -4,6 +4,7 @@ use std::io::Read;
 
 const HEAD_BYTES: usize = 5;
 
+// Bytes and no enum, which would be made and matched in one place.
 const BENCH: u8 = 1;
 
 const STATION: u8 = 2;
@@ -14,9 +15,9 @@ pub(crate) fn run(rt: &impl Print, from: &mut impl Read, number: u64, space: &mu
     if reading::read_full(from, &mut head) != HEAD_BYTES {
         return false;
     }
-    let program = head[0];
-    let policy = joined(head[1], head[2]) as usize;
-    let end = policy + joined(head[3], head[4]) as usize;
+    let [program, policy_low, policy_high, input_low, input_high] = head;
+    let policy = usize::from(u16::from_le_bytes([policy_low, policy_high]));
+    let end = policy + usize::from(u16::from_le_bytes([input_low, input_high]));
     if end > space.len() {
         return false;
     }
@@ -26,21 +27,19 @@ pub(crate) fn run(rt: &impl Print, from: &mut impl Read, number: u64, space: &mu
     play(rt, number, program, &space[0..policy], &space[policy..end])
 }
 
-// The number whose two bytes these are.
-fn joined(low: u8, high: u8) -> u16 {
-    low as u16 + 256 * (high as u16)
-}
-
 // Prints the lines of a case; false if it is neither program's.
 fn play(rt: &impl Print, number: u64, program: u8, policy: &[u8], input: &[u8]) -> bool {
-    if program != BENCH && program != STATION {
-        return false;
+    match program {
+        BENCH => {
+            print::case(rt, number);
+            bench::run(rt, policy, input);
+            true
+        }
+        STATION => {
+            print::case(rt, number);
+            station::run(rt, policy, input);
+            true
+        }
+        _ => false,
     }
-    print::case(rt, number);
-    if program == BENCH {
-        bench::run(rt, policy, input);
-    } else {
-        station::run(rt, policy, input);
-    }
-    true
 }

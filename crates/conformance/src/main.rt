@@ -12,8 +12,9 @@ const MOST_CASES: u64 = 65536;
 fn main(rt: HostRuntime) {
     let mut space = [0u8; 65536];
     let mut input = rt.reader();
-    let mut number: u64 = 1;
-    while number <= MOST_CASES && case::run(&rt, &mut input, number, &mut space) {
-        number += 1;
+    for number in 1..=MOST_CASES {
+        if !case::run(&rt, &mut input, number, &mut space) {
+            return;
+        }
     }
 }

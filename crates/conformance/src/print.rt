@@ -1,6 +1,4 @@
 // What is printed.
-ghost use Rattle.lines.specs.Lines.{Room};
-
 use lines::line::Line;
 
 fn text(rt: &impl Print, bytes: &[u8]) {
@@ -15,10 +13,6 @@ pub(crate) fn case(rt: &impl Print, number: u64) {
 }
 
 // A program's line.
-pub(crate) fn line(rt: &impl Print, line: Line)
-    requires { Room line 0 }
-{
-    let bytes = line.bytes;
-    let length = line.length;
-    text(rt, &bytes[..length]);
+pub(crate) fn line(rt: &impl Print, line: &Line) {
+    text(rt, line.as_bytes());
 }

@@ -1,3 +1,4 @@
 -- The laws of calls, and the theorems.
+pub mod NumberLaws
 pub mod CallsProof
 pub mod TheoremsProof

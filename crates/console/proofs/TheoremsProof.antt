@@ -7,8 +7,7 @@ use Rattle.session.proofs.TypeLaws.{session_back_lem, session_back}
 use Rattle.transcript.specs.Steps as S
 use Rattle.console.specs.Steps.{half_of, reader_of, stage_of}
 use Rattle.console.specs.Theorems.{Theorems}
-use Rattle.console.specs.declared.reader.Half.{Half}
-use Rattle.console.specs.declared.reader.Half.TheVariants.{Low, Nothing}
+use Rattle.std.specs.Prelude.{None, Option as Maybe, Some}
 use Rattle.console.specs.declared.reader.Reader.{Reader}
 use Rattle.console.specs.declared.stage.Stage.{Stage}
 use Rattle.console.specs.declared.stage.Stage.TheVariants.{Ended, Request, Rounds}
@@ -25,21 +24,21 @@ stage_back_lem Request = refl
 stage_back_lem (Rounds s) = ap Rounds (session_back_lem s)
 stage_back_lem Ended = refl
 
-half_back : Option ℕ → Half
-half_back none = Nothing
-half_back (some b) = Low b
+half_back : Option ℕ → Maybe ℕ
+half_back none = None
+half_back (some b) = Some b
 
-half_back_lem : (x : Half) → half_back (half_of x) ≡ x
+half_back_lem : (x : Maybe ℕ) → half_back (half_of x) ≡ x
 unfolding half_back
-half_back_lem Nothing = refl
-half_back_lem (Low b) = refl
+half_back_lem None = refl
+half_back_lem (Some b) = refl
 
 reader_back : S.Reader → Reader
 reader_back r = record { stage = stage_back r.stage; half = half_back r.half }
 
 reader_back_lem : (x : Reader) → reader_back (reader_of x) ≡ x
 unfolding reader_back
-reader_back_lem x = ap₂ (λ (s : Stage) (h : Half). record { stage = s; half = h }) (stage_back_lem x.stage) (half_back_lem x.half)
+reader_back_lem x = ap₂ (λ (s : Stage) (h : Maybe ℕ). record { stage = s; half = h }) (stage_back_lem x.stage) (half_back_lem x.half)
 
 pub theorems : Theorems
 theorems = record {

@@ -1,13 +1,11 @@
 -- What the program's steps mean. Assumes nothing.
-use Rattle.std.specs.Prelude.{List, [], ◌∷◌, ℕ}
+use Rattle.std.specs.Prelude.{None, Option as Maybe, Some, List, [], ◌∷◌, ℕ}
 use Rattle.std.proofs.Math.Option.{Option, none, some}
 use Rattle.session.specs.Types.{move_of, outcome_of, refusal_of, session_of}
 use Rattle.transcript.specs.Events as E
 use Rattle.transcript.specs.Steps as S
 use Rattle.console.specs.declared.event.Event.{Event}
 use Rattle.console.specs.declared.event.Event.TheVariants as event
-use Rattle.console.specs.declared.reader.Half.{Half}
-use Rattle.console.specs.declared.reader.Half.TheVariants.{Low, Nothing}
 use Rattle.console.specs.declared.reader.Reader.{Reader}
 use Rattle.console.specs.declared.reader.Step.{Step}
 use Rattle.console.specs.declared.stage.RecordStep.{RecordStep}
@@ -19,9 +17,9 @@ stage_of Request = S.request
 stage_of (Rounds s) = S.rounds (session_of s)
 stage_of Ended = S.ended
 
-abbrev pub half_of : Half → Option ℕ
-half_of Nothing = none
-half_of (Low b) = some b
+abbrev pub half_of : Maybe ℕ → Option ℕ
+half_of None = none
+half_of (Some b) = some b
 
 abbrev pub reader_of : Reader → S.Reader
 reader_of r = record { stage = stage_of r.stage; half = half_of r.half }

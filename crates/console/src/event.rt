@@ -2,7 +2,7 @@
 use session::refusal::Refusal;
 use session::{Move, Outcome};
 
-// What a byte tells.
+// What a byte tells. An `Option` of the other two would be no plainer: each use would match twice.
 #[derive(Clone, Copy)]
 pub enum Event {
     Nothing,

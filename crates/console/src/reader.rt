@@ -1,25 +1,17 @@
 // The input a byte at a time.
-ghost use Rattle.std.specs.Prelude.{◌≡◌, [], ◌∷◌};
+ghost use Rattle.std.specs.Prelude.{◌≡◌, []};
 ghost use Rattle.std.proofs.Math.Option.{some};
-ghost use Rattle.encoding.specs.LittleEndian.{little_endian};
 ghost use Rattle.transcript.specs.Steps.{begun, byte_step, is_ended, record_step, whole_step};
 ghost use Rattle.console.specs.Steps.{reader_of, stage_of, step_of};
 
 use crate::event::Event;
 use crate::stage::{Stage, record};
 
-// The first byte of a record, until the second comes.
-#[derive(Clone, Copy)]
-pub enum Half {
-    Nothing,
-    Low(u8),
-}
-
-// How far the input is read.
+// How far the input is read: the stage, and the first byte of a record until the second comes.
 #[derive(Clone, Copy)]
 pub struct Reader {
     pub stage: Stage,
-    pub half: Half,
+    pub half: Option<u8>,
 }
 
 // What a byte tells, and the reader then.
@@ -36,7 +28,7 @@ impl Reader {
     {
         Reader {
             stage: Stage::Request,
-            half: Half::Nothing,
+            half: None,
         }
     }
 
@@ -44,24 +36,18 @@ impl Reader {
     pub fn ended(self) -> bool
         ensures { result ≡ is_ended (reader_of self) }
     {
-        let stage = self.stage;
-        match stage {
-            Stage::Request => false,
-            Stage::Rounds(_) => false,
-            Stage::Ended => true,
-        }
+        matches!(self.stage, Stage::Ended)
     }
 
     // The next byte of the input.
+    #[tactic(auto, using(crate::proofs::NumberLaws::two_bytes), unfolding(transcript::specs::Steps::byte_step))]
     pub fn next(self, policy: &[u8], byte: u8) -> Step
         ensures answer { step_of result ≡ byte_step policy.now (reader_of self) byte }
         ensures unchanged { policy.now ≡ policy.now }
     {
-        let stage = self.stage;
-        let half = self.half;
-        match half {
-            Half::Nothing => first_byte(stage, byte),
-            Half::Low(low) => second_byte(stage, policy, number(low, byte)),
+        match self.half {
+            None => first_byte(self.stage, byte),
+            Some(low) => second_byte(self.stage, policy, u16::from_le_bytes([low, byte])),
         }
     }
 }
@@ -74,7 +60,7 @@ fn first_byte(stage: Stage, byte: u8) -> Step
         event: Event::Nothing,
         reader: Reader {
             stage,
-            half: Half::Low(byte),
+            half: Some(byte),
         },
     }
 }
@@ -84,20 +70,11 @@ fn second_byte(stage: Stage, policy: &[u8], number: u16) -> Step
     ensures { step_of result ≡ whole_step (record_step policy.now (stage_of stage) number) }
 {
     let whole = record(stage, policy, number);
-    let event = whole.event;
-    let stage = whole.stage;
     Step {
-        event,
+        event: whole.event,
         reader: Reader {
-            stage,
-            half: Half::Nothing,
+            stage: whole.stage,
+            half: None,
         },
     }
-}
-
-// A record's number, the low byte first.
-fn number(low: u8, high: u8) -> u16
-    ensures { result ≡ little_endian (low ∷ high ∷ []) }
-{
-    low as u16 + 256 * (high as u16)
 }

@@ -7,9 +7,9 @@ ghost use Rattle.session.specs.Types.{move_of, opened_of, session_of};
 ghost use Rattle.console.specs.Steps.{events_of, record_step_of, stage_of};
 
 use crate::event::Event;
-use policy::{Checked, check};
+use policy::check;
 use session::refusal::Refusal;
-use session::{Move, Opened, Session};
+use session::{Move, Session};
 
 // What the next record is.
 #[derive(Clone, Copy)]
@@ -29,6 +29,7 @@ pub(crate) struct RecordStep {
 }
 
 // The next record.
+#[tactic(auto, unfolding(transcript::specs::Steps::record_step))]
 pub(crate) fn record(stage: Stage, policy: &[u8], number: u16) -> RecordStep
     ensures { record_step_of result ≡ record_step policy.now (stage_of stage) number }
 {
@@ -43,24 +44,21 @@ pub(crate) fn record(stage: Stage, policy: &[u8], number: u16) -> RecordStep
 fn request(policy: &[u8], request: u16) -> RecordStep
     ensures { record_step_of result ≡ request_step (policy_refusal policy.now) request }
 {
-    let checked = check(policy);
-    let Checked::Refused(refusal) = checked else {
-        return opened(Session::open(request));
-    };
-    ended(Event::Unopened(Refusal::Policy(refusal)))
-}
-
-// A session under an accepted policy.
-fn opened(opened: Opened) -> RecordStep
-    ensures { record_step_of result ≡ opened_step (opened_of opened) }
-{
-    match opened {
-        Opened::Fresh(session) => RecordStep {
+    match open(policy, request) {
+        Ok(session) => RecordStep {
             event: Event::Nothing,
             stage: Stage::Rounds(session),
         },
-        Opened::Refused(refusal) => ended(Event::Unopened(refusal)),
+        Err(refusal) => ended(Event::Unopened(refusal)),
     }
+}
+
+// A session under an accepted policy.
+fn open(policy: &[u8], request: u16) -> Result<Session, Refusal>
+    ensures { opened_step (opened_of result) ≡ request_step (policy_refusal policy.now) request }
+{
+    check(policy)?;
+    Session::open(request)
 }
 
 // A round, refused or not.
@@ -68,10 +66,9 @@ fn round(session: Session, policy: &[u8], taken: Move) -> RecordStep
     ensures { record_step_of result ≡ round_step (move_of taken) (round policy.now (session_of session) (move_of taken)) }
 {
     let outcome = session.round(policy, taken);
-    let after = outcome.session;
     RecordStep {
         event: Event::Played(taken, outcome),
-        stage: Stage::Rounds(after),
+        stage: Stage::Rounds(outcome.session),
     }
 }
 

@@ -12,7 +12,7 @@ lines_told : (ps : List Printing) → Printings ps → text_in ps ≡ printed (t
 unfolding printed flat_map
 lines_told [] h = refl
 lines_told (p ∷ ps) (h, hs) =
-    ap₂ ◌++◌ h.text (lines_told ps hs) ∙ sym (printed_more (events_of p.call.gives.event) (told_in (calls_in ps)))
+    ap₂ ◌++◌ h (lines_told ps hs) ∙ sym (printed_more (events_of p.call.gives.event) (told_in (calls_in ps)))
 
 pub theorems : Theorems
 theorems = record {

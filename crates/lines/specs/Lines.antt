@@ -1,5 +1,5 @@
 -- What a line says. Assumes nothing.
-use Rattle.std.specs.Prelude.{◌≡◌, List, ◌++◌, ◌+◌, ◌≤◌, ℕ, length, take}
+use Rattle.std.specs.Prelude.{◌≡◌, List, ◌++◌, ◌+◌, ◌≤◌, ℕ, length}
 use Rattle.lines.specs.declared.line.Line.{Line}
 
 -- the room of a line, that of the longest
@@ -8,21 +8,16 @@ line_bytes = 40
 
 -- the bytes that are to be printed
 abbrev pub text_of : Line → List ℕ
-text_of l = take l.length l.bytes
+text_of l = l.bytes.items
 
 -- l has room for n bytes more
-pub record Room (l : Line) (n : ℕ) : Type 0 where
-  pub array : length l.bytes ≡ line_bytes
-  pub room : l.length + n ≤ line_bytes
+abbrev pub Room : Line → ℕ → Type 0
+Room l n = length (text_of l) + n ≤ line_bytes
 
 -- y says what x says, and then xs: nothing is cut
-pub record Appends (x y : Line) (xs : List ℕ) : Type 0 where
-  pub text : text_of y ≡ text_of x ++ xs
-  pub grows : y.length ≡ x.length + length xs
-  pub array : length y.bytes ≡ line_bytes
+abbrev pub Appends : Line → Line → List ℕ → Type 0
+Appends x y xs = text_of y ≡ text_of x ++ xs
 
 -- l says xs, and all of it is there
-pub record Prints (l : Line) (xs : List ℕ) : Type 0 where
-  pub text : text_of l ≡ xs
-  pub counts : l.length ≡ length xs
-  pub room : Room l 0
+abbrev pub Prints : Line → List ℕ → Type 0
+Prints l xs = text_of l ≡ xs

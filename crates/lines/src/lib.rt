@@ -2,7 +2,7 @@
 // have a number in front.
 #![tactic(auto)]
 
-ghost use Rattle.std.specs.Prelude.{◌≡◌, ◌++◌, ◌+◌, ◌≤◌, length};
+ghost use Rattle.std.specs.Prelude.{◌++◌, ◌+◌, ◌≤◌, length};
 ghost use Rattle.rounds.specs.Refusals.{number, of_policy};
 ghost use Rattle.session.specs.Types.{ending_of, move_of, outcome_of, refusal_of};
 ghost use Rattle.policy.specs.Types.{refusal_of as policy_refusal_of};
@@ -10,17 +10,18 @@ ghost use Rattle.transcript.specs.Numerals.{ascii, decimal};
 ghost use Rattle.transcript.specs.Lines.{got_text, line, refused_line, round_line, round_text};
 ghost use Rattle.transcript.specs.Output.{printed};
 ghost use Rattle.console.specs.Steps.{events_of};
-ghost use Rattle.lines.specs.Lines.{Appends, Prints, Room, text_of};
+ghost use Rattle.lines.specs.Lines.{Prints, Room, text_of};
 
 use console::event::Event;
 use line::Line;
-use session::answer::{Answer, Ending};
+use session::answer::Ending;
 use session::refusal::Refusal;
 use session::{Move, Outcome};
 
 pub mod line;
 
 // The line of an event, or none.
+#[tactic(auto, using(transcript::proofs::OutputLaws::printed_one))]
 pub fn of_event(event: Event) -> Line
     ensures { Prints result (printed (events_of event)) }
 {
@@ -32,20 +33,20 @@ pub fn of_event(event: Event) -> Line
 }
 
 // The line of a round: its count and what was shown, unless it is refused.
+#[tactic(auto, unfolding(transcript::specs::Lines::refused_line, transcript::specs::Lines::round_line))]
 pub fn of_round(taken: Move, outcome: Outcome) -> Line
     ensures { Prints result (round_line (move_of taken) (outcome_of outcome)) }
 {
-    let answer = outcome.answer;
-    let session = outcome.session;
-    match answer {
-        Answer::Ends(ending) => of_ending(session.count, taken, ending),
-        Answer::Refused(refusal) => of_refusal(refusal),
+    match outcome.answer {
+        Ok(ending) => of_ending(outcome.session.count, taken, ending),
+        Err(refusal) => of_refusal(refusal),
     }
 }
 
 // The line of a round that is not refused.
 pub fn of_ending(count: u8, taken: Move, ending: Ending) -> Line
-    ensures { Prints result (line (round_text count (move_of taken) (ending_of ending))) }
+    ensures says { Prints result (line (round_text count (move_of taken) (ending_of ending))) }
+    ensures short { length (text_of result) ≤ 28 }
 {
     let line = got(count, taken);
     match ending {
@@ -57,7 +58,8 @@ pub fn of_ending(count: u8, taken: Move, ending: Ending) -> Line
 
 // The beginning of such a line.
 fn got(count: u8, taken: Move) -> Line
-    ensures { Prints result (got_text count (move_of taken)) × (result.length ≤ 18) }
+    ensures says { Prints result (got_text count (move_of taken)) }
+    ensures short { length (text_of result) ≤ 18 }
 {
     let round = numbered(b"round ", count);
     round.text(b" got ").set(taken.shows)
@@ -65,26 +67,29 @@ fn got(count: u8, taken: Move) -> Line
 
 // The line of a refusal.
 pub fn of_refusal(refusal: Refusal) -> Line
-    ensures { Prints result (refused_line (refusal_of refusal)) }
+    ensures says { Prints result (refused_line (refusal_of refusal)) }
+    ensures short { length (text_of result) ≤ 19 }
 {
     match refusal {
         Refusal::Policy(of_policy) => of_refused_policy(of_policy),
-        Refusal::Request => by_number(refusal.number()),
-        Refusal::Unsound => by_number(refusal.number()),
-        Refusal::Closed => by_number(refusal.number()),
+        Refusal::Request | Refusal::Unsound | Refusal::Closed => by_number(refusal.number()),
     }
 }
 
 // The line of a refusal that has a number alone.
+#[tactic(auto, unfolding(transcript::specs::Lines::refused_line))]
 pub fn by_number(n: u8) -> Line
-    ensures { Prints result (refused_line (number n)) }
+    ensures says { Prints result (refused_line (number n)) }
+    ensures short { length (text_of result) ≤ 12 }
 {
     numbered(b"refused ", n).text(b"\n")
 }
 
 // The line of a refused policy, with the record number.
+#[tactic(auto, unfolding(transcript::specs::Lines::refused_line))]
 pub fn of_refused_policy(refusal: policy::refusal::Refusal) -> Line
-    ensures { Prints result (refused_line (of_policy (policy_refusal_of refusal))) }
+    ensures says { Prints result (refused_line (of_policy (policy_refusal_of refusal))) }
+    ensures short { length (text_of result) ≤ 19 }
 {
     let line = numbered(b"refused ", refusal.number()).text(b" at ");
     line.decimal(refusal.record()).text(b"\n")
@@ -103,7 +108,7 @@ pub fn after_number(number: u8, line: Line) -> Line
     ensures { Prints result (decimal number ++ (ascii " " ++ text_of line)) }
 {
     let front = Line::empty().decimal(number).text(b" ");
-    joined(front, line)
+    front.text(line.as_bytes())
 }
 
 // The word for a preview in front of a line.
@@ -111,23 +116,14 @@ pub fn after_preview(line: Line) -> Line
     requires { Room line 8 }
     ensures { Prints result (ascii "preview " ++ text_of line) }
 {
-    joined(Line::empty().text(b"preview "), line)
-}
-
-// What a line says, behind another.
-fn joined(front: Line, line: Line) -> Line
-    requires { Room line 0 × Room front line.length }
-    ensures { Appends front result (text_of line) × (length (text_of line) ≡ line.length) }
-{
-    let bytes = line.bytes;
-    let length = line.length;
-    front.text(&bytes[..length])
+    Line::empty().text(b"preview ").text(line.as_bytes())
 }
 
 // A text and a number.
 fn numbered(text: &[u8], number: u8) -> Line
     requires { length text.now ≤ 8 }
-    ensures { Prints result (text.now ++ decimal number) × (result.length ≤ length text.now + 3) }
+    ensures says { Prints result (text.now ++ decimal number) }
+    ensures short { length (text_of result) ≤ length text.now + 3 }
 {
     Line::empty().text(text).decimal(number)
 }

@@ -1,22 +1,15 @@
 // What is printed.
-use log_comparison::compare::Compared;
+use log_comparison::compare::Refusal;
 
 pub(crate) fn text(rt: &impl Print, bytes: &[u8]) {
     let _ = rt.write_all(bytes);
 }
 
-// The answer to a pair of logs, and the end of the line.
-pub(crate) fn compared(rt: &impl Print, answer: Compared) {
-    match answer {
-        Compared::Agreement => text(rt, b"agree\n"),
-        Compared::Part(record) => number(rt, b"part ", record as u64),
-        Compared::Refused(refusal) => number(rt, b"refused ", refusal.number() as u64),
-    }
-}
-
-// A number after a word, and the end of the line.
-fn number(rt: &impl Print, word: &[u8], n: u64) {
-    text(rt, word);
-    let _ = rt.print(n);
-    text(rt, b"\n");
+// The line of the answer to a pair of logs. compare_logs has the same three: a library for one match would be no plainer.
+pub(crate) fn compared(rt: &impl Print, answer: Result<Option<usize>, Refusal>) {
+    let _ = match answer {
+        Ok(None) => println!(rt; "agree"),
+        Ok(Some(record)) => println!(rt; "part {record}"),
+        Err(refusal) => println!(rt; "refused {}", refusal.number()),
+    };
 }

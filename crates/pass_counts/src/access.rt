@@ -1,49 +1,27 @@
 // The access rules, closed over level by level from one set.
-ghost use Rattle.arrays.specs.Arrays.{Placed, level_count};
-
-use crate::print;
-use arrays::{LEVELS, Starts};
+use arrays::{LEVELS, LevelRules};
 use atoms::AtomSet;
 use fixpoint::close;
 
 // Prints the count of each level, and then the model.
-pub(crate) fn closed<'a>(
-    rt: &impl Print,
-    heads: &'a [u64; 128],
-    positive: &'a [u64; 128],
-    negated: &'a [u64; 128],
-    starts: &'a Starts,
-    credentials: AtomSet,
-)
-    requires { Placed level_count heads.now starts.now }
-{
-    print::text(rt, b" access");
-    let model = levels(rt, heads, positive, negated, starts, credentials);
-    print::set(rt, b" model ", model.bits, 16);
+pub(crate) fn closed(rt: &impl Print, rules: &LevelRules, credentials: AtomSet) {
+    let _ = print!(rt; " access");
+    let model = levels(rt, rules, credentials);
+    let _ = print!(rt; " model {:016x}", model.bits);
 }
 
-// One level after another, as far as there are rules.
-fn levels<'a>(
-    rt: &impl Print,
-    heads: &'a [u64; 128],
-    positive: &'a [u64; 128],
-    negated: &'a [u64; 128],
-    starts: &'a Starts,
-    credentials: AtomSet,
-) -> AtomSet
-    requires { Placed level_count heads.now starts.now }
-{
-    let end = starts[LEVELS];
+// One level after another, as far as there are rules: `evaluation`'s own loop hands out no count.
+fn levels(rt: &impl Print, rules: &LevelRules, credentials: AtomSet) -> AtomSet {
+    let end = rules.starts[LEVELS];
     let mut set = credentials;
-    let mut level: usize = 0;
-    let mut from = starts[0];
-    while from < end {
-        let to = starts[level + 1];
-        let fixpoint = close(heads, positive, negated, from, to, set);
-        print::count(rt, fixpoint.passes);
+    for level in 0..LEVELS {
+        let from = rules.starts[level];
+        if from == end {
+            break;
+        }
+        let fixpoint = close(&rules.rules, from, rules.starts[level + 1], set);
+        let _ = print!(rt; " {}", fixpoint.passes);
         set = fixpoint.set;
-        level += 1;
-        from = to;
     }
     set
 }

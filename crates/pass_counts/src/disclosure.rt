@@ -1,7 +1,6 @@
 // The disclosure rules, closed over from one set.
 ghost use Rattle.form.specs.WrittenForm.{WellFormed};
 
-use crate::print;
 use atoms::AtomSet;
 use fixpoint::close;
 use layout::listed::rules_of;
@@ -11,17 +10,8 @@ use records::DISCLOSURE;
 pub(crate) fn closed(rt: &impl Print, policy: &[u8], shown: AtomSet)
     requires { WellFormed policy.now }
 {
-    let rules = rules_of(policy, DISCLOSURE);
-    let count = rules.count;
-    let fixpoint = close(
-        &rules.heads,
-        &rules.positive,
-        &rules.negated,
-        0,
-        count,
-        shown,
-    );
-    print::text(rt, b" disclosure");
-    print::count(rt, fixpoint.passes);
-    print::set(rt, b" set ", fixpoint.set.bits % 0x1_0000, 4);
+    let listed = rules_of(policy, DISCLOSURE);
+    let fixpoint = close(&listed.rules, 0, listed.count, shown);
+    let credentials = fixpoint.set.bits % 0x1_0000;
+    let _ = print!(rt; " disclosure {} set {credentials:04x}", fixpoint.passes);
 }

@@ -4,7 +4,6 @@
 mod access;
 mod case;
 mod disclosure;
-mod print;
 mod start;
 mod together;
 
@@ -14,8 +13,9 @@ const MOST_CASES: u64 = 65536;
 fn main(rt: HostRuntime) {
     let mut space = [0u8; 4096];
     let mut input = rt.reader();
-    let mut number: u64 = 0;
-    while number < MOST_CASES && case::run(&rt, &mut input, &mut space) {
-        number += 1;
+    for _ in 0..MOST_CASES {
+        if !case::run(&rt, &mut input, &mut space) {
+            break;
+        }
     }
 }

@@ -1,6 +1,8 @@
 // One vector: the request, what is shown and the length of the policy, and then the policy.
-use crate::print;
-use session::{Move, Opened, Session};
+use reading::{number, read_full};
+use session::answer::{Answer, Ending};
+use session::refusal::Refusal;
+use session::{Move, Session};
 use std::io::Read;
 
 // Reads a vector and prints its line; false if there is none left, or no room for its policy.
@@ -10,38 +12,30 @@ pub(crate) fn run(rt: &impl Print, from: &mut impl Read, place: u64, space: &mut
         return false;
     }
     let shows = number(from);
-    let bytes = number(from) as usize;
+    let bytes = usize::from(number(from));
     if bytes > space.len() {
         return false;
     }
-    reading::read_full(from, &mut space[0..bytes]);
-    print::start(rt, place, request, shows);
-    first_round(rt, &space[0..bytes], request, shows);
+    read_full(from, &mut space[..bytes]);
+    let _ = print!(rt; "question {place} request {request} shown {shows:04x}");
+    answered(rt, first_round(&space[..bytes], request, shows));
     true
 }
 
-// The next number, two bytes, little-endian; 0 at the end of the input.
-fn number(from: &mut impl Read) -> u16 {
-    let mut bytes = [0u8; 2];
-    reading::read_full(from, &mut bytes);
-    joined(bytes[0], bytes[1])
-}
-
-// The number whose two bytes these are.
-fn joined(low: u8, high: u8) -> u16 {
-    low as u16 + 256 * (high as u16)
-}
-
 // Opens a session and plays a round.
-fn first_round(rt: &impl Print, policy: &[u8], request: u16, shows: u16) {
-    match Session::open(request) {
-        Opened::Fresh(session) => {
-            let outcome = session.round(policy, Move { shows });
-            let answer = outcome.answer;
-            print::answer(rt, answer);
+fn first_round(policy: &[u8], request: u16, shows: u16) -> Answer {
+    Session::open(request)?.round(policy, Move { shows }).answer
+}
+
+// The rest of the line: a refusal comes with the record number if it is the policy's.
+fn answered(rt: &impl Print, answer: Answer) {
+    let _ = match answer {
+        Ok(Ending::Grant) => println!(rt; " grant"),
+        Ok(Ending::Deny) => println!(rt; " deny"),
+        Ok(Ending::Ask(question)) => println!(rt; " ask {:04x}", question.asks),
+        Err(Refusal::Policy(refusal)) => {
+            println!(rt; " refused {} at {}", refusal.number(), refusal.record())
         }
-        Opened::Refused(refusal) => {
-            print::refused(rt, refusal);
-        }
-    }
+        Err(refusal) => println!(rt; " refused {}", refusal.number()),
+    };
 }

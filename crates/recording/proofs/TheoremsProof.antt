@@ -72,7 +72,7 @@ calls_noticed : (ws : List Writing) → Writings ws → noticed (told_in (calls_
 unfolding noticed flat_map
 calls_noticed [] h = refl
 calls_noticed (w ∷ ws) (h, hs) =
-    noticed_more (events_of w.call.gives.event) (told_in (calls_of ws)) ∙ ap₂ ◌++◌ (sym h.notices.text) (calls_noticed ws hs)
+    noticed_more (events_of w.call.gives.event) (told_in (calls_of ws)) ∙ ap₂ ◌++◌ (sym h.notices) (calls_noticed ws hs)
 
 pub theorems : Theorems
 theorems = record {

@@ -1,5 +1,6 @@
 -- What is written of the program's own records and lines, one call after another. Assumes nothing.
 use Rattle.std.specs.Prelude.{◌≡◌, ℕ}
+use Rattle.std.specs.Prelude as P
 use mathlib.Core.List.{List, [], ◌∷◌, flat_map, map}
 use Rattle.std.proofs.Math.Option.{Option, none}
 use Rattle.lists.specs.Lists.{Every}
@@ -11,8 +12,7 @@ use Rattle.lines.specs.Lines.{Prints, text_of}
 use Rattle.lines.specs.declared.line.Line.{Line}
 use Rattle.session_logs.specs.RoundRecords.{round_record}
 use Rattle.session_logs.specs.SessionLogs.{bytes_in}
-use Rattle.recorder.specs.Types.{record_in}
-use Rattle.recorder.specs.declared.Logged.{Logged}
+use Rattle.recorder.specs.Types.{logged_of}
 use Rattle.recording.specs.Recording.{logged, noticed}
 
 -- the record of what an event tells, if there is one
@@ -22,13 +22,13 @@ record_told (unopened f ∷ es) = none
 record_told (played m o ∷ es) = round_record m o
 
 -- its bytes if there is a record, else nothing
-abbrev pub written_of : Logged → List ℕ
-written_of r = bytes_in (record_in r)
+abbrev pub written_of : P.Option (List ℕ) → List ℕ
+written_of r = bytes_in (logged_of r)
 
 -- a call of the reader's step, with the record and the notice of its event
 pub record Writing : Type 0 where
   pub call : Turn ℕ Step
-  pub logs : Logged
+  pub logs : P.Option (List ℕ)
   pub notices : Line
 
 -- as `record` and `notice` promise them

@@ -1,13 +1,16 @@
 // One case. First how long the start of its line, the policy and the table are, and what is asked. Then these three.
-use crate::input::{Asked, next, number};
+use crate::input::Asked;
 use crate::print;
+use reading::{number, read_full};
 use std::io::Read;
 use table_wire::{SLOT_BYTES, open_at, preview_at, round_at};
 
+// What is asked, as a case has it: a byte, and no enum, which would be made only to be tested below.
 const OPENING: u8 = 1;
 
 const PREVIEW: u8 = 3;
 
+// What stands in a preview before it is written.
 const OTHER: u8 = 0xa5;
 
 // Reads a case and prints its line; false if there is none left, or no room for it.
@@ -17,32 +20,29 @@ pub(crate) fn run(
     space: &mut [u8],
     table: &mut [u8],
 ) -> bool {
-    let start = number(from) as usize;
+    let start = usize::from(number(from));
     if start == 0 {
         return false;
     }
-    let policy = number(from) as usize;
-    let bytes = number(from) as usize;
-    let asked = next(from);
+    let policy = usize::from(number(from));
+    let bytes = usize::from(number(from));
+    let asked = Asked::read(from);
     let end = start + policy;
-    if end > space.len() {
+    if end > space.len() || bytes > table.len() {
         return false;
     }
-    if bytes > table.len() {
-        return false;
-    }
-    reading::read_full(from, &mut space[0..end]);
-    reading::read_full(from, &mut table[0..bytes]);
-    line(rt, start, asked, &space[0..end], &mut table[0..bytes]);
+    read_full(from, &mut space[..end]);
+    read_full(from, &mut table[..bytes]);
+    line(rt, start, asked, &space[..end], &mut table[..bytes]);
     true
 }
 
 // The line of a case, with the policy after the start.
 fn line(rt: &impl Print, start: usize, asked: Asked, named: &[u8], table: &mut [u8]) {
     if start <= named.len() {
-        print::text(rt, &named[0..start]);
+        print::text(rt, &named[..start]);
         answer(rt, asked, &named[start..], table);
-        print::text(rt, b"\n");
+        let _ = println!(rt; "");
     }
 }
 

@@ -12,8 +12,9 @@ fn main(rt: HostRuntime) {
     let mut space = [0u8; 65536];
     let mut table = [0u8; 65536];
     let mut input = rt.reader();
-    let mut left = MOST_CASES;
-    while left > 0 && case::run(&rt, &mut input, &mut space, &mut table) {
-        left -= 1;
+    for _ in 0..MOST_CASES {
+        if !case::run(&rt, &mut input, &mut space, &mut table) {
+            break;
+        }
     }
 }

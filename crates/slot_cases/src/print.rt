@@ -1,4 +1,4 @@
-// What is printed.
+// What is printed. The replies are the numbers of the C interface, so these are matched.
 
 pub(crate) fn text(rt: &impl Print, bytes: &[u8]) {
     let _ = rt.write_all(bytes);
@@ -25,26 +25,17 @@ pub(crate) fn round(rt: &impl Print, reply: u32) {
 // A refusal's number; one of the policy's has a record's number too.
 fn refused(rt: &impl Print, reply: u32) {
     let number = reply % 256;
-    text(rt, b"refused ");
-    let _ = rt.print(number);
-    if number < 7 || number == 12 || number == 13 {
-        text(rt, b" at ");
-        let _ = rt.print(reply / 256);
-    }
+    let record = reply / 256;
+    let _ = match number {
+        0..=6 | 12 | 13 => print!(rt; "refused {number} at {record}"),
+        _ => print!(rt; "refused {number}"),
+    };
 }
 
-// A blank, and the bytes of a table or a preview.
+// A blank, and two hexadecimal digits for each byte of a table or a preview.
 pub(crate) fn bytes(rt: &impl Print, shown: &[u8]) {
-    text(rt, b" ");
-    digits(rt, shown);
-}
-
-// Two hexadecimal digits for each byte.
-fn digits(rt: &impl Print, bytes: &[u8]) {
-    let mut i: usize = 0;
-    while i < bytes.len() {
-        let byte = bytes[i];
+    let _ = print!(rt; " ");
+    for byte in shown {
         let _ = print!(rt; "{byte:02x}");
-        i += 1;
     }
 }

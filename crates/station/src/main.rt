@@ -2,9 +2,6 @@
 // out by `station_lines`.
 #![tactic(auto)]
 
-ghost use Rattle.lines.specs.Lines.{Room};
-
-use lines::line::Line;
 use station_lines::step::{RECORD_BYTES, record};
 use std::io::Read;
 
@@ -14,31 +11,19 @@ fn main(rt: HostRuntime) {
     run(&rt, &mut rt.reader(), &space[..bytes]);
 }
 
-// A proved loop has to end, and nothing says that the input does: records are counted down from more than any run has. Ends with the input, or where a
-// line cannot be written.
+// Prints what each record prints. Ends with the input, or where a line cannot be written; a proved loop has to end, and nothing says that the input
+// does: no run has so many records.
 fn run(rt: &impl Print, input: &mut impl Read, policy: &[u8]) {
     let mut slots = station_table::empty();
-    let mut left = u64::MAX;
-    while left > 0 {
+    for _ in 0..u64::MAX {
         let mut bytes = [0u8; RECORD_BYTES];
         if reading::read_full(input, &mut bytes) != RECORD_BYTES {
             return;
         }
         let step = record(slots, policy, bytes);
-        let line = step.line;
-        slots = step.slots;
-        if !print(rt, line) {
+        if rt.write_all(step.line.as_bytes()).is_err() {
             return;
         }
-        left -= 1;
+        slots = step.slots;
     }
-}
-
-// Whether the line is written.
-fn print(rt: &impl Print, line: Line) -> bool
-    requires { Room line 0 }
-{
-    let bytes = line.bytes;
-    let length = line.length;
-    rt.write_all(&bytes[..length]).is_ok()
 }

@@ -1,5 +1,4 @@
--- The laws of the station's lines and records, and the theorems.
-pub mod LineLaws
+-- The laws of the station's previews and records, and the theorems.
 pub mod PreviewLaws
 pub mod StepLaws
 pub mod OutputLaws

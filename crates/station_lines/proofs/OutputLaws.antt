@@ -64,6 +64,6 @@ calls_printed policy xs [] h rest l = ap (printed_by (table_of xs)) (sym (incomp
 calls_printed policy xs (c ∷ cs) (e, (d, h)) rest l =
     let s = record_step policy (table_of xs) c.takes in
     let acts = acts_in policy (input_of cs ++ rest) in
-    ap₂ ◌++◌ d.prints.text (calls_printed policy c.gives.slots cs h rest l ∙ ap (λ (ys : List S.Slot). printed_by ys acts) d.table)
+    ap₂ ◌++◌ d.prints (calls_printed policy c.gives.slots cs h rest l ∙ ap (λ (ys : List S.Slot). printed_by ys acts) d.table)
     ∙ sym (record_printed policy (table_of xs) c.takes e (input_of cs ++ rest))
     ∙ ap (λ (bytes : List ℕ). printed_by (table_of xs) (acts_in policy bytes)) (sym (append_assoc c.takes (input_of cs) rest))

@@ -1,5 +1,0 @@
--- Each turn leaves one byte less.
-use Rattle.bench.proofs.run.Given as goal
-
-abbrev pub decreases-loop-left : goal.decreases-loop-left
-decreases-loop-left g l = l.left
