@@ -27,10 +27,10 @@ impl RuleArrays {
     };
 }
 
-// Rules laid out by level: those of level l are at places starts[l] to starts[l + 1].
+// Rules laid out by level: those of level l are at places starts[l] to starts[l + 1]. The arrays are lent: to put them into a struct would copy 3 KB.
 #[derive(Clone, Copy)]
-pub struct LevelRules {
-    pub rules: RuleArrays,
-    pub starts: Starts,
-    pub ghost placed: { Placed level_count rules.heads starts },
+pub struct LevelRules<'a> {
+    pub rules: &'a RuleArrays,
+    pub starts: &'a Starts,
+    pub ghost placed: { Placed level_count rules.now.heads starts.now },
 }

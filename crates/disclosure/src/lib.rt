@@ -9,9 +9,10 @@ ghost use Rattle.disclosure.specs.Disclosure.{disclosable};
 ghost use Rattle.disclosure.specs.Theorems.{GivesDisclosable};
 ghost use Rattle.disclosure.specs.Types.{disclosed_of};
 
+use arrays::RuleArrays;
 use atoms::AtomSet;
 use evaluation::closure::close;
-use layout::listed::rules_of;
+use layout::listed::list;
 use policy::check;
 use policy::refusal::Refusal;
 use records::DISCLOSURE;
@@ -28,14 +29,16 @@ pub fn disclosable(policy: &[u8], shown: u16) -> Result<u16, Refusal>
     Err(refusal)
 }
 
-// The disclosable set of an accepted policy.
+// The disclosable set of an accepted policy. Not inlined: a round would keep the 3 KB of its rules on the stack through the search.
+#[inline(never)]
 #[tactic(auto, using(crate::proofs::AcceptedLaws::settled_disclosable, crate::proofs::AcceptedLaws::low_disclosable, encoding::proofs::ByteLaws::slice_bytes))]
 pub fn disclosable_of(policy: &[u8], shown: u16) -> u16
     requires { WellFormed policy.now }
     ensures { result ≡ disclosable (policy_of policy.now) shown }
 {
-    let disclosure = rules_of(policy, DISCLOSURE);
+    let mut disclosure = RuleArrays::EMPTY;
+    let count = list(policy, DISCLOSURE, &mut disclosure);
     let start = AtomSet::credentials(shown);
-    let closed = close(&disclosure.rules, 0, disclosure.count, start);
+    let closed = close(&disclosure, 0, count, start);
     closed.bits as u16
 }

@@ -9,10 +9,10 @@ use atoms::{AtomSet, VIOLATION};
 
 // Level by level, as far as there are rules: each is finished before the next one begins.
 pub fn evaluate(rules: &LevelRules, credentials: AtomSet) -> AtomSet
-    ensures { result.bits ≡ evaluated level_count rules.now.rules.heads rules.now.rules.positive rules.now.rules.negated
-        rules.now.starts credentials.bits }
+    ensures { result.bits ≡ evaluated level_count rules.now.rules.now.heads rules.now.rules.now.positive rules.now.rules.now.negated
+        rules.now.starts.now credentials.bits }
 {
-    let starts = &rules.starts;
+    let starts = rules.starts;
     let end = starts[LEVELS];
     let mut set = credentials;
     for level in 0..LEVELS {
@@ -20,7 +20,7 @@ pub fn evaluate(rules: &LevelRules, credentials: AtomSet) -> AtomSet
         if from == end {
             break;
         }
-        set = close(&rules.rules, from, starts[level + 1], set);
+        set = close(rules.rules, from, starts[level + 1], set);
     }
     set
 }
@@ -28,7 +28,7 @@ pub fn evaluate(rules: &LevelRules, credentials: AtomSet) -> AtomSet
 // The request is in the model and atom 63 is not.
 pub fn unlocks(rules: &LevelRules, request: u8, credentials: AtomSet) -> bool
     ensures { result ≡ grants request
-        (evaluated level_count rules.now.rules.heads rules.now.rules.positive rules.now.rules.negated rules.now.starts
+        (evaluated level_count rules.now.rules.now.heads rules.now.rules.now.positive rules.now.rules.now.negated rules.now.starts.now
         credentials.bits) }
 {
     let model = evaluate(rules, credentials);

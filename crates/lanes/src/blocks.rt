@@ -10,8 +10,8 @@ use preference::Search;
 
 // Candidate 256 b + i is bit i % 64 of word i / 64.
 pub fn block(search: &Search, b: usize) -> [u64; 4]
-    ensures { Unlocking level_count search.now.rules.now.rules.heads search.now.rules.now.rules.positive
-        search.now.rules.now.rules.negated search.now.rules.now.starts search.now.request search.now.shown
+    ensures { Unlocking level_count search.now.rules.now.rules.now.heads search.now.rules.now.rules.now.positive
+        search.now.rules.now.rules.now.negated search.now.rules.now.starts.now search.now.request search.now.shown
         search.now.members.now search.now.count b result }
 {
     let mut table = LaneTable::EMPTY;

@@ -10,8 +10,8 @@ use lane_table::table::LaneTable;
 // over one set: a function for both would take a closure for a level, with clauses on what it makes of the sets, and be longer than the two.
 pub fn evaluate<'a>(table: &'a mut LaneTable, rules: &'a LevelRules, possible: u64)
     requires { Covers possible table.old.words }
-    ensures { Evaluated level_count rules.now.rules.heads rules.now.rules.positive rules.now.rules.negated
-        rules.now.starts table.old.words table.new.words }
+    ensures { Evaluated level_count rules.now.rules.now.heads rules.now.rules.now.positive rules.now.rules.now.negated
+        rules.now.starts.now table.old.words table.new.words }
 {
     let end = rules.starts[LEVELS];
     let mut reached = possible;
@@ -21,7 +21,7 @@ pub fn evaluate<'a>(table: &'a mut LaneTable, rules: &'a LevelRules, possible: u
             return;
         }
         let to = rules.starts[level + 1];
-        let fixpoint = lane_fixpoint::close(table, &rules.rules, from, to, reached);
+        let fixpoint = lane_fixpoint::close(table, rules.rules, from, to, reached);
         reached = fixpoint.possible;
     }
 }

@@ -26,7 +26,7 @@ pub fn rules_of(policy: &[u8], kind: u8) -> Listed
 }
 
 // The same, put into what is lent; the answer is how many they are.
-pub(crate) fn list(policy: &[u8], kind: u8, rules: &mut RuleArrays) -> usize
+pub fn list(policy: &[u8], kind: u8, rules: &mut RuleArrays) -> usize
     requires { WellFormed policy.now × Heads rules.old.heads }
     ensures { InOrder (rules_of kind policy.now) rules.new.heads rules.new.positive rules.new.negated result }
 {

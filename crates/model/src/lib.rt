@@ -37,8 +37,8 @@ fn model_of(policy: &[u8], levels: &[u8; 64], credentials: u16) -> AtomSet
     let mut laid = RuleArrays::EMPTY;
     let starts = access_rules(policy, levels, &mut laid);
     let rules = LevelRules {
-        rules: laid,
-        starts,
+        rules: &laid,
+        starts: &starts,
     };
     evaluate(&rules, AtomSet::credentials(credentials))
 }

@@ -6,7 +6,7 @@ use Rattle.std.proofs.lemmas.List.{get_or-take, length-take-le}
 use lib.ListN.{get_or-map, length-map}
 use Rattle.slots.specs.Slots as S
 use Rattle.slots.specs.Slots.{InTable, in_table, slot_at, slot_limit, unfinished, unfinished_of}
-use Rattle.slots.proofs.CountLaws.{unfinished_all, unfinished_next, unfinished_none}
+use Rattle.slots.proofs.CountLaws.{unfinished_all, unfinished_most, unfinished_next, unfinished_none}
 use Rattle.slots.proofs.FreeLaws.{decides_in_table}
 use Rattle.slot_steps.specs.Types.{slot_of}
 use Rattle.slot_steps.specs.declared.Slot.{Slot}
@@ -40,6 +40,16 @@ count_front ys o r (suc k) l =
 pub counted_front : (ys : List Slot) (o r : ℕ) → r ≤ length ys
     → unfinished o (table_of (take r ys)) (length (take r ys)) ≡ unfinished o (table_of ys) r
 counted_front ys o r l = ap (unfinished o (table_of (take r ys))) (length-take-le r ys l) ∙ count_front ys o r r (le_refl r)
+
+-- what is counted of the first r slots is below 255, and after all of them it is the whole list's count of r
+pub few_counted : (ys : List Slot) (o r k : ℕ) → r ≤ length ys → r ≤ slot_limit → k < length (take r ys) → unfinished o (table_of (take r ys)) k < 255
+few_counted ys o r k l m n = omega (arith, unfinished_most o (table_of (take r ys)) k, length-take-le r ys l)
+
+pub all_of_front : (ys : List Slot) (o r k : ℕ) → r ≤ length ys → k ≤ length (take r ys) → length (take r ys) ≤ k
+    → unfinished o (table_of (take r ys)) k ≡ unfinished o (table_of ys) r
+all_of_front ys o r k l m n =
+    let e : k ≡ length (take r ys) = omega arith in
+    ap (unfinished o (table_of (take r ys))) e ∙ counted_front ys o r l
 
 -- ---- how many slots can be named
 

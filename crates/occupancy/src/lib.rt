@@ -18,14 +18,14 @@ pub fn slots_in(n: usize) -> usize
     n.min(SLOT_LIMIT)
 }
 
-// How many of these slots hold an unfinished session of the owner's.
-#[tactic(auto, using(crate::proofs::ListLaws::one_more, slots::proofs::CountLaws::unfinished_most, slots::proofs::CountLaws::unfinished_none))]
-pub fn owned(slots: &[Slot], owner: u8) -> u8
-    requires { length slots.now ≤ slot_limit }
-    ensures { result ≡ unfinished owner (table_of slots.now) (length slots.now) }
+// How many of the first slots hold an unfinished session of the owner's.
+#[tactic(auto, using(crate::proofs::ListLaws::one_more, crate::proofs::ListLaws::few_counted, crate::proofs::ListLaws::all_of_front, slots::proofs::CountLaws::unfinished_none))]
+pub fn owned(slots: &[Slot], reach: usize, owner: u8) -> u8
+    requires { (reach ≤ length slots.now) × (reach ≤ slot_limit) }
+    ensures { result ≡ unfinished owner (table_of slots.now) reach }
 {
     let mut count = 0;
-    for slot in slots {
+    for slot in &slots[..reach] {
         count = tally(*slot, owner, count);
     }
     count

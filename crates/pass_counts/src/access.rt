@@ -19,7 +19,7 @@ fn levels(rt: &impl Print, rules: &LevelRules, credentials: AtomSet) -> AtomSet 
         if from == end {
             break;
         }
-        let fixpoint = close(&rules.rules, from, rules.starts[level + 1], set);
+        let fixpoint = close(rules.rules, from, rules.starts[level + 1], set);
         let _ = print!(rt; " {}", fixpoint.passes);
         set = fixpoint.set;
     }

@@ -7,7 +7,7 @@ use arrays::{LevelRules, RuleArrays};
 use atoms::AtomSet;
 use layout::access_rules;
 use policy::examine;
-use reading::{next, number, read_full};
+use reading::{next, read_full};
 use std::io::Read;
 
 // Reads a case and prints its line; false if there is none left, or no room for it.
@@ -29,7 +29,10 @@ fn named(rt: &impl Print, from: &mut impl Read, space: &mut [u8], letters: usize
 
 // The credentials and the policy.
 fn answered(rt: &impl Print, from: &mut impl Read, space: &mut [u8]) -> bool {
-    let credentials = number(from);
+    // A byte at a time, as the input may end between them and go on.
+    let [low]: [u8; 1] = next(from);
+    let [high]: [u8; 1] = next(from);
+    let credentials = u16::from_le_bytes([low, high]);
     let bytes = 18 * byte(from);
     if bytes > space.len() {
         return false;
@@ -65,8 +68,8 @@ fn counts(rt: &impl Print, policy: &[u8], levels: &[u8; 64], credentials: u16)
     let mut laid = RuleArrays::EMPTY;
     let starts = access_rules(policy, levels, &mut laid);
     let rules = LevelRules {
-        rules: laid,
-        starts,
+        rules: &laid,
+        starts: &starts,
     };
     let shown = AtomSet::credentials(credentials);
     access::closed(rt, &rules, shown);

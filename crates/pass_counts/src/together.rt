@@ -20,7 +20,7 @@ fn levels(rt: &impl Print, table: &mut LaneTable, rules: &LevelRules) {
             break;
         }
         let to = rules.starts[level + 1];
-        let fixpoint = lane_fixpoint::close(table, &rules.rules, from, to, u64::MAX);
+        let fixpoint = lane_fixpoint::close(table, rules.rules, from, to, u64::MAX);
         let _ = print!(rt; " {}", fixpoint.passes);
     }
 }

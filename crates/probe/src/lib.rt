@@ -73,8 +73,8 @@ fn accepted(
     let mut laid = RuleArrays::EMPTY;
     let starts = access_rules(policy, levels, &mut laid);
     let rules = LevelRules {
-        rules: laid,
-        starts,
+        rules: &laid,
+        starts: &starts,
     };
     let credentials = AtomSet::credentials(shown);
     if unlocks(&rules, request, credentials) {
@@ -92,10 +92,10 @@ fn found(
     weights: &[u8; 16],
     limit: u32,
 ) -> u64
-    requires { LockedRequest level_count rules.now.rules.heads rules.now.rules.positive rules.now.rules.negated rules.now.starts
+    requires { LockedRequest level_count rules.now.rules.now.heads rules.now.rules.now.positive rules.now.rules.now.negated rules.now.starts.now
         request shown within }
-    ensures { result ≡ found_reply (opens_in level_count rules.now.rules.heads rules.now.rules.positive
-        rules.now.rules.negated rules.now.starts request shown) within weights.now limit }
+    ensures { result ≡ found_reply (opens_in level_count rules.now.rules.now.heads rules.now.rules.now.positive
+        rules.now.rules.now.negated rules.now.starts.now request shown) within weights.now limit }
 {
     let mut members = [0u16; 16];
     write_members(&mut members, within);

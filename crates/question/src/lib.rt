@@ -34,10 +34,10 @@ pub fn preferred(
     within: u16,
     weights: &[u8; 16],
 ) -> Option<Question>
-    requires { LockedRequest level_count rules.now.rules.heads rules.now.rules.positive rules.now.rules.negated rules.now.starts
+    requires { LockedRequest level_count rules.now.rules.now.heads rules.now.rules.now.positive rules.now.rules.now.negated rules.now.starts.now
         request shown within }
-    ensures { found_of result ≡ preferred_in level_count rules.now.rules.heads rules.now.rules.positive
-        rules.now.rules.negated rules.now.starts request shown within weights.now }
+    ensures { found_of result ≡ preferred_in level_count rules.now.rules.now.heads rules.now.rules.now.positive
+        rules.now.rules.now.negated rules.now.starts.now request shown within weights.now }
 {
     let mut members = [0u16; 16];
     write_members(&mut members, within);

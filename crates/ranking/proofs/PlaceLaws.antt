@@ -5,14 +5,13 @@ use mathlib.Core.List.{List}
 use Prim.Native.Nat.{◌*◌, ◌+◌, ◌-◌, ◌<◌, ◌≤◌, ℕ}
 use borrow.Author.Tests.{le-ltb, lt-ltb}
 use lib.Dec.{ltb}
-use lib.ListN.{get_or, length, take}
-use Rattle.std.proofs.lemmas.List.{get_or-take, length-take}
+use lib.ListN.{get_or}
 use native.Mathlib.Decide.{dec_lt}
 use native.Mathlib.Omega.{arith}
 use Rattle.std.specs.Int.{from_bool}
 use Rattle.std.specs.Prelude.{nat_lt}
 use Rattle.std.proofs.lemmas.Bool.Decides.{nat_tests}
-use Rattle.lists.proofs.SumLaws.{sum_next, sum_none, sum_same, sum_start}
+use Rattle.lists.proofs.SumLaws.{sum_next, sum_none, sum_start}
 use Rattle.lists.specs.Sums.{sum}
 use Rattle.ranking.specs.Keys.{never}
 use Rattle.ranking.specs.Place.{below, keys_below, keys_in, narrow}
@@ -52,15 +51,6 @@ none_below keys bar = sum_start (λ i. below (get_or keys i 0) bar)
 pub more_below : (keys : List ℕ) (i bar : ℕ) → keys_below keys (i + 1) bar ≡ keys_below keys i bar + below (get_or keys i 0) bar
 unfolding keys_below
 more_below keys i bar = sum_next (λ i. below (get_or keys i 0) bar) i
-
--- a part of the keys
-pub keys_taken : (keys : List ℕ) (count bar : ℕ) → count ≤ length keys → keys_below (take count keys) (length (take count keys)) bar ≡ keys_below keys count bar
-unfolding keys_below
-keys_taken keys count bar l =
-    let e : length (take count keys) ≡ count = omega (arith, length-take count keys) in
-    ap (λ (x : ℕ). sum (λ i. below (get_or (take count keys) i 0) bar) x) e
-    ∙ sum_same (λ i. below (get_or (take count keys) i 0) bar) (λ i. below (get_or keys i 0) bar) count
-    (λ i k. ap (λ (x : ℕ). below x bar) (get_or-take count keys i 0 k))
 
 -- nothing is below 0
 pub zero_below : (keys : List ℕ) (count left : ℕ) → left ≡ 0 → 0 ≡ keys_below keys count (narrow left)

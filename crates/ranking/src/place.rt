@@ -5,13 +5,13 @@ ghost use Rattle.ranking.specs.Place.{Bar, keys_below, keys_in, narrow};
 use crate::NEVER;
 use crate::tables::KeyTables;
 
-// How many keys are below a bar.
-pub fn keys_below(keys: &[u32], bar: u32) -> u32
-    requires { length keys.now ≤ 256 }
-    ensures { (result ≡ keys_below keys.now (length keys.now) bar) × (result ≤ length keys.now) }
+// How many of the first keys are below a bar. The keys come with a count, as the definition `keys_below` has them.
+pub fn keys_below(keys: &[u32], count: usize, bar: u32) -> u32
+    requires { (count ≤ length keys.now) × (count ≤ 256) }
+    ensures { (result ≡ keys_below keys.now count bar) × (result ≤ count) }
 {
     let mut n: u32 = 0;
-    for key in keys {
+    for key in &keys[..count] {
         n += u32::from(*key < bar);
     }
     n
@@ -35,7 +35,7 @@ fn lanes_below(low: &[u32; 256], lanes: usize, left: u64) -> u32
     if left == 0 {
         return 0;
     }
-    keys_below(&low[..lanes], narrow(left))
+    keys_below(low, lanes, narrow(left))
 }
 
 // How many candidates have a key below the given one.
@@ -59,7 +59,8 @@ pub fn bar(tables: &KeyTables, limit: usize) -> u32
     if tables.lanes * tables.blocks <= limit {
         return NEVER;
     }
-    let last = tables.high[tables.blocks - 1];
+    // There is a block then. Only of keys below NEVER a place is counted.
+    let last = tables.high[tables.blocks - 1].min(NEVER - 1);
     if place(tables, 256 * u64::from(last)) <= limit {
         return NEVER;
     }

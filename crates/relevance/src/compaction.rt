@@ -6,13 +6,16 @@ ghost use Rattle.relevance.specs.Places.{KeptIn, StartsMoved, room, room_before}
 use arrays::{LEVELS, LevelRules, RuleArrays, Starts};
 use atoms::AtomSet;
 
-// Each rule is written at the next place, which moves on if the rule is kept.
-pub(crate) fn kept_rules(rules: &LevelRules, set: AtomSet) -> LevelRules
-    ensures { KeptIn level_count set.bits rules.now.rules.heads rules.now.rules.positive rules.now.rules.negated
-        rules.now.starts result.rules.heads result.rules.positive result.rules.negated result.starts }
+// Each rule is written at the next place of what is lent, which moves on if the rule is kept. The answer is where each level begins.
+pub(crate) fn keep_rules(rules: &LevelRules, set: AtomSet, kept: &mut RuleArrays) -> Starts
+    ensures { KeptIn level_count set.bits rules.now.rules.now.heads rules.now.rules.now.positive rules.now.rules.now.negated
+        rules.now.starts.now kept.new.heads kept.new.positive kept.new.negated result }
 {
+    // One array at a time: a value of all three would stand on the stack first.
+    kept.heads = [1u64; 128];
+    kept.positive = [0u64; 128];
+    kept.negated = [0u64; 128];
     let starts = kept_starts(rules, set);
-    let mut kept = RuleArrays::EMPTY;
     let count = rules.starts[LEVELS];
     let mut place: usize = 0;
     for k in 0..count {
@@ -24,15 +27,12 @@ pub(crate) fn kept_rules(rules: &LevelRules, set: AtomSet) -> LevelRules
         kept.negated[place] = none;
         place = after(place, AtomSet { bits: head }, set);
     }
-    LevelRules {
-        rules: kept,
-        starts,
-    }
+    starts
 }
 
 // Where each level begins: after what is kept of the levels below it.
 fn kept_starts(rules: &LevelRules, set: AtomSet) -> Starts
-    ensures { StartsMoved level_count set.bits rules.now.rules.heads rules.now.starts result }
+    ensures { StartsMoved level_count set.bits rules.now.rules.now.heads rules.now.starts.now result }
 {
     let mut moved = [0usize; LEVELS + 1];
     let mut from: usize = 0;

@@ -2,6 +2,7 @@
 // block.
 ghost use Rattle.std.specs.Prelude.{◌≡◌, ◌*◌, ◌+◌, ◌^◌, ◌≤◌};
 ghost use Rattle.preference.specs.Order.{cost_of, searched};
+ghost use Rattle.ranking.specs.Grid.{Tables};
 ghost use Rattle.ranking.specs.Keys.{never, widened};
 ghost use Rattle.search.specs.Blocks.{BestOf, Better, Last, Visited};
 ghost use Rattle.search.specs.Candidates.{passes};
@@ -53,14 +54,16 @@ pub(crate) fn by_blocks(search: &Search, weights: &[u8; 16], limit: usize) -> Se
 
 // The best key of a candidate, until none of the blocks left can hold a better one.
 fn best_of(search: &Search, tables: &KeyTables, end: u32) -> u64
-    requires { end ≤ never }
+    requires tables { Tables tables.now.low.now tables.now.lanes tables.now.high.now tables.now.blocks }
+    requires last { end ≤ never }
     ensures { BestOf (passes search.now) tables.now.low.now tables.now.lanes tables.now.high.now tables.now.blocks end result }
 {
+    let high = tables.high;
     let mut best: u64 = NEVER_KEY;
     let mut from: u32 = 0;
     // How many blocks are visited is not known before.
     loop {
-        let key = next_key(tables, from);
+        let key = next_key(high, tables.blocks, from);
         if is_last(key, end, best) {
             return best;
         }
@@ -78,6 +81,7 @@ fn is_last(key: u32, end: u32, best: u64) -> bool
 
 // The best key so far, or that of the first lane that passes of the block of this key.
 fn visit(search: &Search, tables: &KeyTables, key: u32, best: u64) -> u64
+    requires { Tables tables.now.low.now tables.now.lanes tables.now.high.now tables.now.blocks }
     ensures { Visited (passes search.now) tables.now.low.now tables.now.lanes key best result }
 {
     let words = block(search, (key % 256) as usize);

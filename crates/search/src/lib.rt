@@ -6,10 +6,11 @@ ghost use Rattle.preference.specs.Order.{cost_of, searched};
 ghost use Rattle.search.specs.Candidates.{passes};
 ghost use Rattle.search.specs.Types.{result_of};
 
+use arrays::{LevelRules, RuleArrays};
 use blocks::by_blocks;
 use candidate::candidates;
 use preference::Search;
-use relevance::relevant_rules;
+use relevance::keep_relevant;
 use result::{SearchResult, nothing};
 use singles::one_by_one;
 
@@ -46,7 +47,12 @@ pub fn first(search: &Search, weights: &[u8; 16], limit: usize) -> SearchResult
 fn by_relevant_rules(search: &Search, weights: &[u8; 16], limit: usize) -> SearchResult
     ensures { result_of result ≡ searched (cost_of weights.now) (passes search.now) (2 ^ search.now.count) limit }
 {
-    let rules = relevant_rules(search.rules, search.request);
+    let mut kept = RuleArrays::EMPTY;
+    let starts = keep_relevant(search.rules, search.request, &mut kept);
+    let rules = LevelRules {
+        rules: &kept,
+        starts: &starts,
+    };
     let fewer = Search {
         rules: &rules,
         request: search.request,

@@ -26,7 +26,7 @@ pub(crate) fn one_by_one(search: &Search, weights: &[u8; 16], limit: usize) -> S
     if NEVER <= best {
         return nothing(lanes - 1, limit);
     }
-    let place = keys_below(&low[..lanes], best);
+    let place = keys_below(&low, lanes, best);
     found((best % 256) as usize, place as usize, limit)
 }
 

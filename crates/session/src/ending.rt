@@ -33,8 +33,8 @@ pub(crate) fn ending(
     let mut laid = RuleArrays::EMPTY;
     let starts = access_rules(policy, levels, &mut laid);
     let rules = LevelRules {
-        rules: laid,
-        starts,
+        rules: &laid,
+        starts: &starts,
     };
     let service = request as u8;
     let credentials = AtomSet::credentials(shown);

@@ -120,7 +120,10 @@ impl Session {
 fn next(session: Session, policy: &[u8], taken: Move) -> Result<Outcome, Refusal>
     ensures { outcome_or (session_of session) result ≡ round policy.now (session_of session) (move_of taken) }
 {
-    let levels = examine(policy)?;
+    let examined = examine(policy);
+    let Ok(levels) = examined else {
+        return Err(examined.unwrap_err().into());
+    };
     test(session, taken)?;
     Ok(accepted_round(session, policy, &levels, taken))
 }

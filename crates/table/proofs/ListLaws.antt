@@ -109,9 +109,9 @@ module _ (xs : List S.Slot) (i o r : ℕ) where
       go false = refl
 
 -- what was counted over the slots that can be named
-pub counted : (ys : List Slot) (o r n : ℕ) → r ≡ slots_in (length ys) → n ≡ unfinished o (table_of (take r ys)) (length (take r ys))
+pub counted : (ys : List Slot) (o r n : ℕ) → r ≡ slots_in (length ys) → n ≡ unfinished o (table_of ys) r
     → n ≡ unfinished o (table_of ys) (slots_in (length ys))
-counted ys o r n e is = is ∙ counted_front ys o r (omega arith) ∙ ap (unfinished o (table_of ys)) e
+counted ys o r n e is = is ∙ ap (unfinished o (table_of ys)) e
 
 module _ (ys : List Slot) (i o r : ℕ) where
   abbrev pub Opens : Option Refusal → List Slot → Type 0

@@ -25,7 +25,7 @@ pub fn open_at(slots: &mut [Slot], slot: usize, owner: u8, request: u16) -> Resu
 {
     let reach = slots_in(slots.len());
     if slot < reach {
-        let count = owned(&slots[..reach], owner);
+        let count = owned(slots, reach, owner);
         slots[slot] = slot_open(slots[slot], count, owner, request)?;
         Ok(())
     } else {

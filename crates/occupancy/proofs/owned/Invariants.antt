@@ -5,4 +5,4 @@ use Rattle.occupancy.specs.Types.{table_of}
 use Rattle.occupancy.proofs.owned.Given as goal
 
 abbrev pub invariant-loop-slot : goal.invariant-loop-slot
-invariant-loop-slot l = l.count ≡ unfinished l.owner (table_of l.slots) l.slot-index
+invariant-loop-slot l = l.count ≡ unfinished l.owner (table_of l.slot-items) l.slot-index

@@ -19,7 +19,7 @@ invariant_of-search c =
         placed = r.placed;
         atom = c.requires.atom;
         switches =
-            counted level_count r.rules.heads r.rules.positive r.rules.negated r.starts a.request a.shown a.within
+            counted level_count r.rules.now.heads r.rules.now.positive r.rules.now.negated r.starts.now a.request a.shown a.within
             c.ranges.within.fits c.requires.apart _ c.write_members.ensures _ sized;
       };
     }
@@ -29,7 +29,7 @@ first-answer-requires c =
     let a = c.args in
     let r = a.rules.now in
     let sized = c.count-count.ensures ∙ ap size c.credentials.ensures in
-    locked level_count r.rules.heads r.rules.positive r.rules.negated r.starts a.request a.shown a.within
+    locked level_count r.rules.now.heads r.rules.now.positive r.rules.now.negated r.starts.now a.request a.shown a.within
     c.ranges.within.fits c.requires.apart _ c.write_members.ensures _ sized c.requires.alone
 
 pub reply-requires : goal.reply-requires
@@ -37,7 +37,7 @@ reply-requires c =
     let a = c.args in
     let r = a.rules.now in
     let sized = c.count-count.ensures ∙ ap size c.credentials.ensures in
-    let all = counted level_count r.rules.heads r.rules.positive r.rules.negated r.starts a.request a.shown a.within
+    let all = counted level_count r.rules.now.heads r.rules.now.positive r.rules.now.negated r.starts.now a.request a.shown a.within
     c.ranges.within.fits c.requires.apart _ c.write_members.ensures _ sized in
     let few = within_limit _ _ _ _ (pow_pos _) (result_of c.first-answer.result) c.first-answer.ensures in
     (all.0, omega (arith, c.ranges.limit.fits))
@@ -48,5 +48,5 @@ returns c =
     let r = a.rules.now in
     let sized = c.count-count.ensures ∙ ap size c.credentials.ensures in
     c.reply.ensures
-    ∙ replies_found level_count r.rules.heads r.rules.positive r.rules.negated r.starts a.request a.shown a.within
+    ∙ replies_found level_count r.rules.now.heads r.rules.now.positive r.rules.now.negated r.starts.now a.request a.shown a.within
     c.ranges.within.fits c.requires.apart _ c.write_members.ensures _ sized _ _ _ c.first-answer.ensures

@@ -14,7 +14,7 @@ invariant_of-search c =
         placed = r.placed;
         atom = c.requires.atom;
         switches =
-            counted level_count r.rules.heads r.rules.positive r.rules.negated r.starts a.request a.shown a.within
+            counted level_count r.rules.now.heads r.rules.now.positive r.rules.now.negated r.starts.now a.request a.shown a.within
             c.ranges.within.fits c.requires.apart _ c.write_members.ensures _ many;
       };
     }
@@ -24,7 +24,7 @@ first-answer-requires c =
     let a = c.args in
     let r = a.rules.now in
     let many = c.count-count.ensures ∙ ap size c.credentials.ensures in
-    locked level_count r.rules.heads r.rules.positive r.rules.negated r.starts a.request a.shown a.within
+    locked level_count r.rules.now.heads r.rules.now.positive r.rules.now.negated r.starts.now a.request a.shown a.within
     c.ranges.within.fits c.requires.apart _ c.write_members.ensures _ many c.requires.alone
 
 pub returns : goal.returns
@@ -33,6 +33,6 @@ returns c =
     let r = a.rules.now in
     let many = c.count-count.ensures ∙ ap size c.credentials.ensures in
     c.asked.ensures
-    ∙ answered level_count r.rules.heads r.rules.positive r.rules.negated r.starts a.request a.shown a.within
+    ∙ answered level_count r.rules.now.heads r.rules.now.positive r.rules.now.negated r.starts.now a.request a.shown a.within
     c.ranges.within.fits c.requires.apart _ c.write_members.ensures _ many a.weights.now _ c.write_weights.ensures
     c.first-answer.result c.first-answer.ensures

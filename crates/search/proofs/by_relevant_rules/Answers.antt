@@ -7,5 +7,5 @@ returns c =
     let s = c.args.search.now in
     let r = s.rules.now in
     c.by_blocks.ensures
-    ∙ answer_relevant _ _ r.rules.heads r.rules.positive r.rules.negated r.starts _ _ _ _ c.relevant_rules-rules.ensures c.args.weights.now s.shown s.members.now
+    ∙ answer_relevant _ _ r.rules.now.heads r.rules.now.positive r.rules.now.negated r.starts.now _ _ _ _ c.keep_relevant-starts.ensures c.args.weights.now s.shown s.members.now
     s.count c.args.limit

@@ -8,11 +8,11 @@ use Rattle.session.proofs.next.Goals as goal
 pub returns-in_err-test : goal.returns-in_err-test
 returns-in_err-test c =
     let a = c.args in
-    let p = err_from_is_err_and c.from_residual-in_err-test.result c.from_residual-in_err-test.ensures.1 in
-    rw (p.1, p.2) (round_tested a.policy.now (session_of a.session) (move_of a.taken) _ c.in_ok-levels.ensures.answer c.in_err-test.ensures)
+    let p = err_from_is_err_and c.from_residual.result c.from_residual.ensures.1 in
+    rw (p.1, p.2) (round_tested a.policy.now (session_of a.session) (move_of a.taken) _ c.in-Ok.ensures.answer c.in_err-test.ensures)
 
 pub returns : goal.returns
 returns c =
     let a = c.args in
     c.accepted_round.ensures
-    ∙ round_tested a.policy.now (session_of a.session) (move_of a.taken) _ c.in_ok-levels.ensures.answer c.in_ok-test.ensures
+    ∙ round_tested a.policy.now (session_of a.session) (move_of a.taken) _ c.in-Ok.ensures.answer c.in_ok-test.ensures

@@ -7,5 +7,5 @@ use Rattle.arrays.specs.Arrays.{evaluated, level_count, levels_in}
 use Rattle.evaluation.proofs.levels.evaluate.Given as goal
 
 abbrev pub invariant-loop-level : goal.invariant-loop-level
-invariant-loop-level l = level_by_level (levels_in l.rules.rules.heads l.rules.rules.positive l.rules.rules.negated l.rules.starts l.level (level_count - l.level)) l.set.bits
-    ≡ evaluated level_count l.rules.rules.heads l.rules.rules.positive l.rules.rules.negated l.rules.starts l.initial.set.bits
+invariant-loop-level l = level_by_level (levels_in l.rules.rules.now.heads l.rules.rules.now.positive l.rules.rules.now.negated l.rules.starts.now l.level (level_count - l.level)) l.set.bits
+    ≡ evaluated level_count l.rules.rules.now.heads l.rules.rules.now.positive l.rules.rules.now.negated l.rules.starts.now l.initial.set.bits

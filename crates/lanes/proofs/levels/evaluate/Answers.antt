@@ -15,7 +15,7 @@ returns-then-from-end c =
 pub close-fixpoint-requires-clause-placed : goal.close-fixpoint-requires-clause-placed
 close-fixpoint-requires-clause-placed c =
     let rules = c.args.rules.now in
-    level_places level_count rules.rules.heads rules.starts rules.placed c.loop-level.level (omega arith)
+    level_places level_count rules.rules.now.heads rules.starts.now rules.placed c.loop-level.level (omega arith)
 
 pub loop-level-preserved : goal.loop-level-preserved
 loop-level-preserved c =
@@ -27,4 +27,4 @@ returns c =
     let l = c.loop-level in
     let rules = c.args.rules.now in
     let last : l.level ≡ level_count = omega arith in
-    evaluating_done _ _ _ _ _ rules.placed.ordered _ _ _ l.level (omega arith) (omega (arith, ap (λ (x : ℕ). get_or rules.starts x 0) last)) l.invariant
+    evaluating_done _ _ _ _ _ rules.placed.ordered _ _ _ l.level (omega arith) (omega (arith, ap (λ (x : ℕ). get_or rules.starts.now x 0) last)) l.invariant

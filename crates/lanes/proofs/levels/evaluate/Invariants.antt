@@ -4,4 +4,4 @@ use Rattle.lanes.proofs.levels.evaluate.Given as goal
 
 abbrev pub invariant-loop-level : goal.invariant-loop-level
 invariant-loop-level l =
-    Evaluating level_count l.rules.rules.heads l.rules.rules.positive l.rules.rules.negated l.rules.starts l.initial.table.words l.table.words l.reached l.level
+    Evaluating level_count l.rules.rules.now.heads l.rules.rules.now.positive l.rules.rules.now.negated l.rules.starts.now l.initial.table.words l.table.words l.reached l.level

@@ -7,4 +7,4 @@ use Rattle.pass_counts.proofs.access.levels.Goals as goal
 pub close-fixpoint-requires : goal.close-fixpoint-requires
 close-fixpoint-requires g c =
     let rules = c.args.rules.now in
-    level_places level_count rules.rules.heads rules.starts rules.placed c.loop-level.level (omega arith)
+    level_places level_count rules.rules.now.heads rules.starts.now rules.placed c.loop-level.level (omega arith)

@@ -8,7 +8,7 @@ use Rattle.pass_counts.proofs.together.levels.Goals as goal
 pub close-fixpoint-requires-clause-placed : goal.close-fixpoint-requires-clause-placed
 close-fixpoint-requires-clause-placed g c =
     let rules = c.args.rules.now in
-    level_places level_count rules.rules.heads rules.starts rules.placed c.loop-level.level (omega arith)
+    level_places level_count rules.rules.now.heads rules.starts.now rules.placed c.loop-level.level (omega arith)
 
 pub close-fixpoint-requires-clause-covered : goal.close-fixpoint-requires-clause-covered
 close-fixpoint-requires-clause-covered g c = covers_all _

@@ -10,7 +10,7 @@ pub loop-l-init : goal.loop-l-init
 loop-l-init c = record {
   places = omega arith;
   next = λ i. omega arith;
-  goes = sym (before_none c.args.set.bits c.args.rules.now.rules.heads);
+  goes = sym (before_none c.args.set.bits c.args.rules.now.rules.now.heads);
   begins = λ i j. omega arith;
 }
 
@@ -20,7 +20,7 @@ place_of-place-requires c =
     let placed = c.args.rules.now.placed in (
       record {
         ordered = l.invariant.next (omega arith);
-        fits = start_fits level_count c.args.rules.now.starts placed.ordered l.l (omega arith);
+        fits = start_fits level_count c.args.rules.now.starts.now placed.ordered l.l (omega arith);
         singles = placed.singles;
       },
       l.invariant.goes,

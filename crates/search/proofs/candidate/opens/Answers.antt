@@ -11,5 +11,5 @@ returns c =
     let s = c.args.search.now in
     let r = s.rules.now in
     c.unlocks.ensures
-    ∙ ap (λ (x : ℕ). grants s.request (evaluated level_count r.rules.heads r.rules.positive r.rules.negated r.starts x))
+    ∙ ap (λ (x : ℕ). grants s.request (evaluated level_count r.rules.now.heads r.rules.now.positive r.rules.now.negated r.starts.now x))
     (c.credentials-credentials.ensures ∙ c.switched.ensures)

@@ -1,8 +1,7 @@
 use mathlib.Core.Path.{◌∙◌}
 use lib.Pow.{pow_mono}
-use Rattle.std.proofs.lemmas.List.{get_or-replicate, length-take}
+use Rattle.std.proofs.lemmas.List.{get_or-replicate}
 use Rattle.ranking.specs.Keys.{never}
-use Rattle.ranking.proofs.PlaceLaws.{keys_taken}
 use Rattle.search.proofs.AnswerLaws.{single_found, single_nothing}
 use native.Mathlib.Omega.{arith}
 use Rattle.search.proofs.singles.one_by_one.Goals as goal
@@ -19,21 +18,16 @@ returns-then-best-ge-NEVER c =
     ∙ single_nothing _ _ _ c.requires.few w.keys _ _ _ _ c.candidates-lanes.ensures.power (λ i k l. w.beyond i k ∙ get_or-replicate 8 i never 0 l)
     c.requires.locked c.best_lane-best.ensures c.if-best-ge-NEVER.true
 
-pub slice_bounds-low-end : goal.slice_bounds-low-end
-slice_bounds-low-end c =
+pub keys_below-place-requires : goal.keys_below-place-requires
+keys_below-place-requires c =
     let m = pow_mono {i = c.args.search.now.count} {j = 3} c.requires.few in
-    omega (arith, c.write_keys.ensures.long, c.candidates-lanes.ensures.power)
-
-pub slice_bounds-keys_below-end : goal.slice_bounds-keys_below-end
-slice_bounds-keys_below-end c =
-    let m = pow_mono {i = c.args.search.now.count} {j = 3} c.requires.few in
-    omega (arith, length-take c.candidates-lanes.result c.write_keys.new.keys, c.write_keys.ensures.long, c.candidates-lanes.ensures.power)
+    let l = c.write_keys.ensures.long in
+    let n = c.candidates-lanes.ensures.power in
+    (omega arith, omega arith)
 
 pub returns : goal.returns
 returns c =
     let w = c.write_keys.ensures in
-    let m = pow_mono {i = c.args.search.now.count} {j = 3} c.requires.few in
     c.found.ensures
     ∙ single_found _ _ _ c.requires.few w.keys _ _ _ _ c.candidates-lanes.ensures.power (λ i k l. w.beyond i k ∙ get_or-replicate 8 i never 0 l)
-    c.requires.locked c.best_lane-best.ensures _ (omega arith)
-    (c.keys_below-place.ensures.0 ∙ keys_taken c.write_keys.new.keys c.candidates-lanes.result c.best_lane-best.result (omega (arith, w.long, c.candidates-lanes.ensures.power)))
+    c.requires.locked c.best_lane-best.ensures _ (omega arith) c.keys_below-place.ensures.0
