@@ -8,7 +8,7 @@ line_bytes = 40
 
 -- the bytes that are to be printed
 abbrev pub text_of : Line → List ℕ
-text_of l = l.bytes.items
+text_of l = l.text.bytes
 
 -- l has room for n bytes more
 abbrev pub Room : Line → ℕ → Type 0

@@ -23,7 +23,8 @@ pub mod line;
 // The line of an event, or none.
 #[tactic(auto, using(transcript::proofs::OutputLaws::printed_one))]
 pub fn of_event(event: Event) -> Line
-    ensures { Prints result (printed (events_of event)) }
+    ensures says { Prints result (printed (events_of event)) }
+    ensures fits { Room result 0 }
 {
     match event {
         Event::Nothing => Line::empty(),
@@ -35,7 +36,8 @@ pub fn of_event(event: Event) -> Line
 // The line of a round: its count and what was shown, unless it is refused.
 #[tactic(auto, unfolding(transcript::specs::Lines::refused_line, transcript::specs::Lines::round_line))]
 pub fn of_round(taken: Move, outcome: Outcome) -> Line
-    ensures { Prints result (round_line (move_of taken) (outcome_of outcome)) }
+    ensures says { Prints result (round_line (move_of taken) (outcome_of outcome)) }
+    ensures fits { Room result 0 }
 {
     match outcome.answer {
         Ok(ending) => of_ending(outcome.session.count, taken, ending),
@@ -50,9 +52,9 @@ pub fn of_ending(count: u8, taken: Move, ending: Ending) -> Line
 {
     let line = got(count, taken);
     match ending {
-        Ending::Grant => line.text(b" grant\n"),
-        Ending::Deny => line.text(b" deny\n"),
-        Ending::Ask(question) => line.text(b" ask ").set(question.asks).text(b"\n"),
+        Ending::Grant => line.text(" grant\n"),
+        Ending::Deny => line.text(" deny\n"),
+        Ending::Ask(question) => line.text(" ask ").set(question.asks).text("\n"),
     }
 }
 
@@ -61,8 +63,8 @@ fn got(count: u8, taken: Move) -> Line
     ensures says { Prints result (got_text count (move_of taken)) }
     ensures short { length (text_of result) ≤ 18 }
 {
-    let round = numbered(b"round ", count);
-    round.text(b" got ").set(taken.shows)
+    let round = numbered("round ", count);
+    round.text(" got ").set(taken.shows)
 }
 
 // The line of a refusal.
@@ -82,7 +84,7 @@ pub fn by_number(n: u8) -> Line
     ensures says { Prints result (refused_line (number n)) }
     ensures short { length (text_of result) ≤ 12 }
 {
-    numbered(b"refused ", n).text(b"\n")
+    numbered("refused ", n).text("\n")
 }
 
 // The line of a refused policy, with the record number.
@@ -91,36 +93,39 @@ pub fn of_refused_policy(refusal: policy::refusal::Refusal) -> Line
     ensures says { Prints result (refused_line (of_policy (policy_refusal_of refusal))) }
     ensures short { length (text_of result) ≤ 19 }
 {
-    let line = numbered(b"refused ", refusal.number()).text(b" at ");
-    line.decimal(refusal.record()).text(b"\n")
+    let line = numbered("refused ", refusal.number()).text(" at ");
+    line.decimal(refusal.record()).text("\n")
 }
 
 // The line of an opening that is not refused.
 pub fn opened() -> Line
-    ensures { Prints result (line (ascii "opened")) }
+    ensures says { Prints result (line (ascii "opened")) }
+    ensures fits { Room result 0 }
 {
-    Line::empty().text(b"opened\n")
+    Line::empty().text("opened\n")
 }
 
 // A number in front of a line.
 pub fn after_number(number: u8, line: Line) -> Line
     requires { Room line 4 }
-    ensures { Prints result (decimal number ++ (ascii " " ++ text_of line)) }
+    ensures says { Prints result (decimal number ++ (ascii " " ++ text_of line)) }
+    ensures fits { Room result 0 }
 {
-    let front = Line::empty().decimal(number).text(b" ");
-    front.text(line.as_bytes())
+    let front = Line::empty().decimal(number).text(" ");
+    front.text(line.as_str())
 }
 
 // The word for a preview in front of a line.
 pub fn after_preview(line: Line) -> Line
     requires { Room line 8 }
-    ensures { Prints result (ascii "preview " ++ text_of line) }
+    ensures says { Prints result (ascii "preview " ++ text_of line) }
+    ensures fits { Room result 0 }
 {
-    Line::empty().text(b"preview ").text(line.as_bytes())
+    Line::empty().text("preview ").text(line.as_str())
 }
 
 // A text and a number.
-fn numbered(text: &[u8], number: u8) -> Line
+fn numbered(text: &str, number: u8) -> Line
     requires { length text.now ≤ 8 }
     ensures says { Prints result (text.now ++ decimal number) }
     ensures short { length (text_of result) ≤ length text.now + 3 }

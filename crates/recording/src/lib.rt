@@ -3,7 +3,7 @@
 
 ghost use Rattle.std.specs.Prelude.{◌≡◌};
 ghost use Rattle.console.specs.Steps.{events_of};
-ghost use Rattle.lines.specs.Lines.{Prints};
+ghost use Rattle.lines.specs.Lines.{Prints, Room};
 ghost use Rattle.recorder.specs.Types.{logged_of};
 ghost use Rattle.recording.specs.Recording.{logged, noticed};
 ghost use Rattle.recording.specs.Written.{record_told, written_of};
@@ -27,7 +27,8 @@ pub fn record(event: Event) -> Option<[u8; ENTRY_BYTES]>
 // The notice, which may be empty.
 #[tactic(auto, unfolding(crate::specs::Recording::noticed), using(crate::proofs::WrittenLaws::one_noticed))]
 pub fn notice(event: Event) -> Line
-    ensures { Prints result (noticed (events_of event)) }
+    ensures says { Prints result (noticed (events_of event)) }
+    ensures fits { Room result 0 }
 {
     match event {
         Event::Unopened(refusal) => lines::of_refusal(refusal),

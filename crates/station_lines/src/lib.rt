@@ -6,7 +6,7 @@ ghost use Rattle.transcript.specs.Lines.{answer_text, line, refused_line};
 ghost use Rattle.session.specs.Types.{move_of};
 ghost use Rattle.slot_steps.specs.Types.{answer_of, opens_of, refusal_of};
 ghost use Rattle.slot_preview.specs.Types.{next_of, preview_of};
-ghost use Rattle.lines.specs.Lines.{Prints, text_of};
+ghost use Rattle.lines.specs.Lines.{Prints, Room, text_of};
 ghost use Rattle.station_lines.specs.Lines.{count_of, opening_line, preview_line, round_at_line};
 
 use lines::line::Line;
@@ -21,7 +21,8 @@ pub mod step;
 // The line of an opening.
 #[tactic(auto, unfolding(crate::specs::Lines::opening_line, transcript::specs::Lines::refused_line))]
 pub fn of_opening(slot: u8, answer: Result<(), Refusal>) -> Line
-    ensures { Prints result (opening_line slot (opens_of answer)) }
+    ensures says { Prints result (opening_line slot (opens_of answer)) }
+    ensures fits { Room result 0 }
 {
     match answer {
         Ok(()) => after_number(slot, opened()),
@@ -32,7 +33,8 @@ pub fn of_opening(slot: u8, answer: Result<(), Refusal>) -> Line
 // The line of a round, after which the slot's session has this count.
 #[tactic(auto, unfolding(crate::specs::Lines::round_at_line))]
 pub fn of_round(slot: u8, taken: Move, answer: Answer, count: u8) -> Line
-    ensures { Prints result (round_at_line slot (move_of taken) (answer_of answer) count) }
+    ensures says { Prints result (round_at_line slot (move_of taken) (answer_of answer) count) }
+    ensures fits { Room result 0 }
 {
     after_number(slot, of_answer(taken, answer, count))
 }
@@ -40,7 +42,8 @@ pub fn of_round(slot: u8, taken: Move, answer: Answer, count: u8) -> Line
 // The line of a preview.
 #[tactic(auto, unfolding(crate::specs::Lines::preview_line))]
 pub fn of_preview(slot: u8, taken: Move, preview: Preview) -> Line
-    ensures { Prints result (preview_line slot (move_of taken) (preview_of preview)) }
+    ensures says { Prints result (preview_line slot (move_of taken) (preview_of preview)) }
+    ensures fits { Room result 0 }
 {
     let line = of_answer(taken, preview.answer, count_of(preview.session));
     after_number(slot, after_preview(line))

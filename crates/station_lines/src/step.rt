@@ -5,6 +5,7 @@ ghost use Rattle.slots.specs.RoundsAt.{round_at};
 ghost use Rattle.previews.specs.Previews.{preview_at};
 ghost use Rattle.session.specs.Types.{move_of};
 ghost use Rattle.occupancy.specs.Types.{table_of};
+ghost use Rattle.lines.specs.Lines.{Room};
 ghost use Rattle.station_lines.specs.Steps.{Does, opening_step, preview_step, record_step, round_step};
 
 use crate::{of_opening, of_preview, of_round};
@@ -17,7 +18,7 @@ use station_table::{SLOTS, count_at, open_in, preview_in, round_in};
 pub const RECORD_BYTES: usize = 5;
 
 // What a record prints, and the slots after it.
-#[derive(Drop)]
+#[derive(Clone, Copy)]
 pub struct Step {
     pub line: Line,
     pub slots: [Slot; SLOTS],
@@ -27,6 +28,7 @@ pub struct Step {
 #[tactic(auto, using(crate::proofs::StepLaws::step_opens, crate::proofs::StepLaws::step_plays, crate::proofs::StepLaws::step_previews, crate::proofs::StepLaws::step_passes, console::proofs::NumberLaws::two_bytes))]
 pub fn record(slots: [Slot; SLOTS], policy: &[u8], bytes: [u8; RECORD_BYTES]) -> Step
     ensures does { Does result (record_step policy.now (table_of slots) bytes) }
+    ensures fits { Room result.line 0 }
     ensures unchanged { policy.now ≡ policy.now }
 {
     let [operation, slot, owner, low, high] = bytes;
@@ -45,7 +47,8 @@ pub fn record(slots: [Slot; SLOTS], policy: &[u8], bytes: [u8; RECORD_BYTES]) ->
 
 // An opening.
 fn opening(slots: [Slot; SLOTS], slot: u8, owner: u8, request: u16) -> Step
-    ensures { Does result (opening_step slot (open_at (table_of slots) slot owner request)) }
+    ensures does { Does result (opening_step slot (open_at (table_of slots) slot owner request)) }
+    ensures fits { Room result.line 0 }
 {
     let after = open_in(slots, slot as usize, owner, request);
     let slots = after.slots;
@@ -57,7 +60,8 @@ fn opening(slots: [Slot; SLOTS], slot: u8, owner: u8, request: u16) -> Step
 
 // A round.
 fn round(slots: [Slot; SLOTS], policy: &[u8], slot: u8, taken: Move) -> Step
-    ensures { Does result (round_step slot (move_of taken) (round_at policy.now (table_of slots) slot (move_of taken))) }
+    ensures does { Does result (round_step slot (move_of taken) (round_at policy.now (table_of slots) slot (move_of taken))) }
+    ensures fits { Room result.line 0 }
 {
     let after = round_in(slots, policy, slot as usize, taken);
     let slots = after.slots;
@@ -70,7 +74,8 @@ fn round(slots: [Slot; SLOTS], policy: &[u8], slot: u8, taken: Move) -> Step
 
 // A preview of a round; the slots stay as they are.
 fn preview(slots: [Slot; SLOTS], policy: &[u8], slot: u8, taken: Move) -> Step
-    ensures { Does result (preview_step slot (move_of taken) (preview_at policy.now (table_of slots) slot (move_of taken)) (table_of slots)) }
+    ensures does { Does result (preview_step slot (move_of taken) (preview_at policy.now (table_of slots) slot (move_of taken)) (table_of slots)) }
+    ensures fits { Room result.line 0 }
 {
     let preview = preview_in(slots, policy, slot as usize, taken);
     Step {

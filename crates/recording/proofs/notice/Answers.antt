@@ -4,6 +4,6 @@ use mathlib.Core.List.{flat_map}
 use Rattle.recording.specs.Recording.{noticed}
 use Rattle.recording.proofs.notice.Goals as goal
 
-pub returns-in-Nothing : goal.returns-in-Nothing
+pub returns-in-Nothing-clause-says : goal.returns-in-Nothing-clause-says
 unfolding noticed flat_map
-returns-in-Nothing c = elim c.in-Nothing.is [ inl e ↦ rw e c.empty.ensures | inr (m, o, e) ↦ rw e c.empty.ensures ]
+returns-in-Nothing-clause-says c = elim c.in-Nothing.is [ inl e ↦ rw e c.empty.ensures | inr (m, o, e) ↦ rw e c.empty.ensures ]
