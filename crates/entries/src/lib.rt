@@ -53,12 +53,14 @@ impl Entry {
     pub fn is_sound(self) -> bool
         ensures { result ≡ is_sound_entry (entry_of self) }
     {
-        let asks_rightly = match self.answer {
+        if self.pad != 0 {
+            return false;
+        }
+        match self.answer {
             GRANT | DENY => self.asked == 0,
             ASK => self.asked != 0,
             _ => false,
-        };
-        self.pad == 0 && asks_rightly
+        }
     }
 
     // Whether two records agree: by answer and asked set alone, so this is no derived equality.

@@ -12,11 +12,11 @@ pub(crate) struct Asked {
 }
 
 impl Asked {
-    // Numbers of one, four, one and two bytes, little-endian.
+    // Numbers of one, four, one and two bytes, little-endian. That of four is read by halves, as the input may end between them and go on.
     pub(crate) fn read(from: &mut impl Read) -> Asked {
         Asked {
             operation: byte(from),
-            slot: u32::from_le_bytes(next(from)) as usize,
+            slot: usize::from(number(from)) + 65536 * usize::from(number(from)),
             owner: byte(from),
             word: number(from),
         }

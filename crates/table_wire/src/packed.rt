@@ -11,7 +11,7 @@ use wire::packed::{RECORD_BYTES, pack, unpack};
 
 pub(crate) const EMPTY: Slot = Slot { holding: None };
 
-const HELD: u8 = 1;
+pub(crate) const HELD: u8 = 1;
 
 // Slot k of a table that has it, if its twelve bytes stand for a slot.
 #[tactic(auto, unfolding(slot_packing::specs::PackedSlots::slot_in))]
@@ -39,7 +39,7 @@ fn unpack_slot(bytes: &[u8]) -> Option<Slot>
 }
 
 // A slot with an owner, if the other bytes are a session.
-fn unpack_held(bytes: &[u8]) -> Option<Slot>
+pub(crate) fn unpack_held(bytes: &[u8]) -> Option<Slot>
     requires { length bytes.now ≡ 12 }
     ensures { found_of result ≡ held_in bytes.now }
 {
