@@ -2,7 +2,6 @@
 // block.
 ghost use Rattle.std.specs.Prelude.{◌≡◌, ◌*◌, ◌+◌, ◌^◌, ◌≤◌};
 ghost use Rattle.preference.specs.Order.{cost_of, searched};
-ghost use Rattle.ranking.specs.Grid.{Tables};
 ghost use Rattle.ranking.specs.Keys.{never, widened};
 ghost use Rattle.search.specs.Blocks.{BestOf, Better, Last, Visited};
 ghost use Rattle.search.specs.Candidates.{passes};
@@ -17,7 +16,7 @@ use ranking::cheapest::cheapest;
 use ranking::keys::write_keys;
 use ranking::next::next_key;
 use ranking::place::{bar, place};
-use ranking::tables::KeyTables;
+use ranking::tables::{KeyTables, RankedTables};
 
 // So many members are the lanes' at most.
 const LANE_MEMBERS: usize = 8;
@@ -37,33 +36,34 @@ pub(crate) fn by_blocks(search: &Search, weights: &[u8; 16], limit: usize) -> Se
     write_keys(&mut high, weights, inner, count - inner);
     let lanes = candidates(inner);
     let blocks = candidates(count - inner);
-    let tables = KeyTables {
-        low: &low,
-        lanes,
-        high: &high,
-        blocks,
+    let tables = RankedTables {
+        keys: KeyTables {
+            low: &low,
+            lanes,
+            high: &high,
+            blocks,
+        },
     };
-    let end = bar(&tables, limit);
+    let end = bar(&tables.keys, limit);
     let best = best_of(search, &tables, end);
     if NEVER_KEY <= best {
         return nothing(candidates(count) - 1, limit);
     }
-    let before = place(&tables, best);
+    let before = place(&tables.keys, best);
     found((best % 65536) as usize, before, limit)
 }
 
 // The best key of a candidate, until none of the blocks left can hold a better one.
-fn best_of(search: &Search, tables: &KeyTables, end: u32) -> u64
-    requires tables { Tables tables.now.low.now tables.now.lanes tables.now.high.now tables.now.blocks }
-    requires last { end ≤ never }
-    ensures { BestOf (passes search.now) tables.now.low.now tables.now.lanes tables.now.high.now tables.now.blocks end result }
+fn best_of(search: &Search, tables: &RankedTables, end: u32) -> u64
+    requires { end ≤ never }
+    ensures { BestOf (passes search.now) tables.now.keys.low.now tables.now.keys.lanes tables.now.keys.high.now tables.now.keys.blocks end result }
 {
-    let high = tables.high;
+    let high = tables.keys.high;
     let mut best: u64 = NEVER_KEY;
     let mut from: u32 = 0;
     // How many blocks are visited is not known before.
     loop {
-        let key = next_key(high, tables.blocks, from);
+        let key = next_key(high, tables.keys.blocks, from);
         if is_last(key, end, best) {
             return best;
         }
@@ -80,12 +80,11 @@ fn is_last(key: u32, end: u32, best: u64) -> bool
 }
 
 // The best key so far, or that of the first lane that passes of the block of this key.
-fn visit(search: &Search, tables: &KeyTables, key: u32, best: u64) -> u64
-    requires { Tables tables.now.low.now tables.now.lanes tables.now.high.now tables.now.blocks }
-    ensures { Visited (passes search.now) tables.now.low.now tables.now.lanes key best result }
+fn visit(search: &Search, tables: &RankedTables, key: u32, best: u64) -> u64
+    ensures { Visited (passes search.now) tables.now.keys.low.now tables.now.keys.lanes key best result }
 {
     let words = block(search, (key % 256) as usize);
-    let lane = cheapest(tables.low, &words);
+    let lane = cheapest(tables.keys.low, &words);
     better(best, key, lane)
 }
 

@@ -23,10 +23,10 @@ invariant_of-tables c =
     let g = grid_written _ _ _ _ _ _ _ c.args.search.now.searchable.switches.0 c.min-inner.ensures c.candidates-lanes.ensures.power c.candidates-blocks.ensures.power c.write_keys.ensures c.write_keys-2.ensures in
     record { lanes_most = g.tables.lanes_most; blocks_most = g.tables.blocks_most }
 
-pub best_of-best-requires-clause-tables : goal.best_of-best-requires-clause-tables
-best_of-best-requires-clause-tables c =
+pub invariant_of-tables-2 : goal.invariant_of-tables-2
+invariant_of-tables-2 c =
     let g = grid_written _ _ _ _ _ _ _ c.args.search.now.searchable.switches.0 c.min-inner.ensures c.candidates-lanes.ensures.power c.candidates-blocks.ensures.power c.write_keys.ensures c.write_keys-2.ensures in
-    g.tables
+    record { tables = g.tables; some = c.candidates-blocks.ensures.some }
 
 pub returns-then-best-ge-NEVER_KEY : goal.returns-then-best-ge-NEVER_KEY
 returns-then-best-ge-NEVER_KEY c =
